@@ -1,0 +1,6 @@
+pub mod Networks
+pub mod Tables
+pub mod Questions
+pub mod Normal
+pub mod Refusals
+pub mod Rules

@@ -1,0 +1,42 @@
+-- Tables, questions, and what it is for a network to meet one.
+use mathlib.Core.Path.{_≡_}
+use mathlib.Core.Bool.{Bool, true, false, cond}
+use mathlib.Core.List.{List, [], _∷_, _++_}
+use Prim.Native.Nat.{ℕ, zero, suc, _+_, _^_, _≤_, _<_}
+use lib.ListN.{length, getD, replicate}
+use Rattle.mig.specs.declared.question.Limits.{Limits}
+use Rattle.mig.specs.declared.question.Question.{Question}
+use Rattle.mig.specs.Tables.{bitAt}
+use Rattle.mig.specs.Networks.{Net, Formed, size, outputValue, bits, levels, uses}
+
+-- the first n inputs in row t: input i has the bit i - 1 of t
+unfoldable pub inputBits : ℕ → ℕ → List Bool
+inputBits zero t = []
+inputBits (suc n) t = inputBits n t ++ (bitAt t n ∷ [])
+
+-- the constant, then the inputs, in row t
+abbrev pub rowStart : ℕ → ℕ → List Bool
+rowStart n t = false ∷ inputBits n t
+
+-- what the network computes in row t
+abbrev pub rowBit : ℕ → Net → ℕ → Bool
+rowBit n net t = outputValue bits (rowStart n t) net
+
+-- the network computes the table in every row
+abbrev pub Computes : ℕ → ℕ → Net → Type 0
+Computes n table net = (t : ℕ) → t < 2 ^ n → rowBit n net t ≡ bitAt table t
+
+-- the level of the network: that of its output, where the constant and the inputs have level 0
+abbrev pub level : ℕ → Net → ℕ
+level n net = outputValue levels (replicate (n + 1) 0) net
+
+-- the level is within the depth limit, and no gate's fan-out is above the fan-out limit
+pub record Within (n : ℕ) (limits : Limits) (net : Net) : Type 0 where
+  pub level : level n net ≤ limits .depth
+  pub fan-outs : (j : ℕ) → n < j → j < n + 1 + size net → uses j net ≤ limits .«fan_out»
+
+-- a network meets a question: well-formed, computes the table, within the limits
+pub record Meets (question : Question) (net : Net) : Type 0 where
+  pub formed : Formed (question .inputs) net
+  pub computes : Computes (question .inputs) (question .table) net
+  pub within : Within (question .inputs) (question .limits) net

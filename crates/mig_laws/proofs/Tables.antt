@@ -1,0 +1,93 @@
+-- Tables and their rows, for every number of rows.
+use mathlib.Core.Path.{_≡_, refl, sym, ap, ap₂, _∙_}
+use mathlib.Core.Bool.{Bool, true, false, cond}
+use Prim.Native.Nat.{ℕ, zero, suc, _+_, _*_, _/_, _%_, _^_, _≤_, _<_}
+use native.Mathlib.Nat.{zero-add, pow-succ', div-div-eq-div-mul, div-one, pow-zero}
+use native.Mathlib.Omega.{arith}
+use lib.Dec.{eqb}
+use Rattle.mig.specs.Tables.{bitAt, tableFrom}
+
+-- a bit as a number
+abbrev pub one : Bool → ℕ
+one b = cond b 1 0
+
+pub one-small : (b : Bool) → one b ≤ 1
+one-small true = omega arith
+one-small false = omega arith
+
+pub bitAt-zero : (m : ℕ) → bitAt m 0 ≡ eqb (m % 2) 1
+bitAt-zero m = ap (λ (x : ℕ). eqb (x % 2) 1) (div-one m)
+
+pub bitAt-suc : (m i : ℕ) → bitAt m (suc i) ≡ bitAt (m / 2) i
+bitAt-suc m i =
+    ap (λ (x : ℕ). eqb (x % 2) 1) (ap (λ (y : ℕ). m / y) (pow-succ' 2 i) ∙ sym (div-div-eq-div-mul m 2 (2 ^ i)))
+
+pub bitAt-table : (r t : ℕ) (g : ℕ → Bool) (i : ℕ) → i < r → bitAt (tableFrom r t g) i ≡ g (t + i)
+unfolding tableFrom
+bitAt-table zero t g i h = absurd (omega arith)
+bitAt-table (suc r) t g zero h =
+    bitAt-zero (one (g t) + 2 * tableFrom r (t + 1) g)
+    ∙ ap (λ (x : ℕ). eqb x 1) (low (one (g t)) (tableFrom r (t + 1) g))
+    ∙ back (g t)
+    ∙ ap g (plain t)
+  where
+    low : (a b : ℕ) → (a + 2 * b) % 2 ≡ a % 2
+    low a b = omega arith
+
+    back : (b : Bool) → eqb (one b % 2) 1 ≡ b
+    back true = refl
+    back false = refl
+
+    plain : (a : ℕ) → a ≡ a + 0
+    plain a = omega arith
+bitAt-table (suc r) t g (suc i) h =
+    bitAt-suc (one (g t) + 2 * tableFrom r (t + 1) g) i
+    ∙ ap (λ (x : ℕ). bitAt x i) (high (one (g t)) (tableFrom r (t + 1) g) (one-small (g t)))
+    ∙ bitAt-table r (t + 1) g i (omega arith)
+    ∙ ap g (moved t i)
+  where
+    high : (a b : ℕ) → a ≤ 1 → (a + 2 * b) / 2 ≡ b
+    high a b l = omega arith
+
+    moved : (a b : ℕ) → (a + 1) + b ≡ a + suc b
+    moved a b = omega arith
+
+pub table-below : (r t : ℕ) (g : ℕ → Bool) → tableFrom r t g < 2 ^ r
+unfolding tableFrom
+table-below zero t g = omega (arith, pow-zero 2)
+table-below (suc r) t g = omega (arith, pow-succ' 2 r, one-small (g t), table-below r (t + 1) g)
+
+-- a number below 2^r is the table of its bits
+pub table-bits : (r t f : ℕ) (g : ℕ → Bool) → f < 2 ^ r → ((i : ℕ) → i < r → g (t + i) ≡ bitAt f i) → tableFrom r t g ≡ f
+unfolding tableFrom
+table-bits zero t f g l e = omega (arith, pow-zero 2)
+table-bits (suc r) t f g l e =
+    let d : g t ≡ eqb (f % 2) 1 = ap g (plain t) ∙ e 0 (omega arith) ∙ bitAt-zero f in
+    let q : tableFrom r (t + 1) g ≡ f / 2 =
+    table-bits r (t + 1) (f / 2) g (omega (arith, pow-succ' 2 r)) (λ i b. ap g (moved t i) ∙ e (suc i) (omega arith) ∙ bitAt-suc f i) in
+    ap₂ (λ (a : Bool) (b : ℕ). one a + 2 * b) d q ∙ halves f
+  where
+    plain : (a : ℕ) → a ≡ a + 0
+    plain a = omega arith
+
+    moved : (a b : ℕ) → (a + 1) + b ≡ a + suc b
+    moved a b = omega arith
+
+    parity : (a : ℕ) → a ≤ 1 → one (eqb a 1) ≡ a
+    parity zero h = refl
+    parity (suc zero) h = refl
+    parity (suc (suc a)) h = absurd (omega arith)
+
+    halves : (a : ℕ) → one (eqb (a % 2) 1) + 2 * (a / 2) ≡ a
+    halves a = omega (arith, parity (a % 2) (omega arith))
+
+-- two numbers below 2^r with the same bits are equal
+pub bits-same : (r x y : ℕ) → x < 2 ^ r → y < 2 ^ r → ((i : ℕ) → i < r → bitAt x i ≡ bitAt y i) → x ≡ y
+bits-same r x y hx hy e =
+    sym (table-bits r 0 x (bitAt x) hx (λ i l. ap (bitAt x) (zero-add i)))
+    ∙ table-bits r 0 y (bitAt x) hy (λ i l. ap (bitAt x) (zero-add i) ∙ e i l)
+
+-- a number is below two to its own power
+pub below-power : (n : ℕ) → n < 2 ^ n
+below-power zero = omega (arith, pow-zero 2)
+below-power (suc n) = omega (arith, pow-succ' 2 n, below-power n)
