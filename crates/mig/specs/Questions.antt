@@ -30,10 +30,24 @@ Computes n table net = (t : ℕ) → t < 2 ^ n → rowBit n net t ≡ bitAt tabl
 abbrev pub level : ℕ → Net → ℕ
 level n net = outputValue levels (replicate (n + 1) 0) net
 
+-- a question within bounds: up to four inputs, no table bit behind the rows, a depth limit of 0 to 7, a fan-out limit of 1 to 19
+pub record Valid (question : Question) : Type 0 where
+  pub inputs : question .inputs ≤ 4
+  pub table : question .table < 2 ^ (2 ^ question .inputs)
+  pub depth : question .limits .depth ≤ 7
+  pub some-fan-out : 1 ≤ question .limits .«fan_out»
+  pub fan-out : question .limits .«fan_out» ≤ 19
+
 -- the level is within the depth limit, and no gate's fan-out is above the fan-out limit
 pub record Within (n : ℕ) (limits : Limits) (net : Net) : Type 0 where
   pub level : level n net ≤ limits .depth
   pub fan-outs : (j : ℕ) → n < j → j < n + 1 + size net → uses j net ≤ limits .«fan_out»
+
+-- f is the greatest fan-out of a gate, or 0 where there are no gates
+pub record IsGreatestFanOut (n : ℕ) (net : Net) (f : ℕ) : Type 0 where
+  pub above : (j : ℕ) → n < j → j < n + 1 + size net → uses j net ≤ f
+  pub attained : (0 < size net) → (j : ℕ) × (n < j) × (j < n + 1 + size net) × (uses j net ≡ f)
+  pub none : size net ≡ 0 → f ≡ 0
 
 -- a network meets a question: well-formed, computes the table, within the limits
 pub record Meets (question : Question) (net : Net) : Type 0 where

@@ -4,3 +4,8 @@ pub mod Walks
 pub mod Flips
 pub mod Nodes
 pub mod Turning
+pub mod Columns
+pub mod Levels
+pub mod Steps
+pub mod Decisions
+pub mod Refusals
