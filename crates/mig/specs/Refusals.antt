@@ -1,7 +1,7 @@
 -- The numbers of the refusals.
 use Prim.Native.Nat.{ℕ}
 use Rattle.mig.specs.declared.refusal.Refusal.{Refusal}
-use Rattle.mig.specs.declared.refusal.Refusal.the-variants.{InputsAboveFour, TableBitBeyondRows, DepthLimitAboveSeven, FanOutLimitOutOfRange, MalformedNetwork, WrongTable, LevelAboveLimit, FanOutAboveLimit}
+use Rattle.mig.specs.declared.refusal.Refusal.the-variants.{InputsAboveFour, TableBitBeyondRows, DepthLimitAboveSeven, FanOutLimitOutOfRange, MalformedNetwork, WrongTable, LevelAboveLimit, FanOutAboveLimit, BufferTooShort}
 
 -- the number of a refusal
 abbrev pub numberOf : Refusal → ℕ
@@ -13,3 +13,4 @@ numberOf MalformedNetwork = 9
 numberOf WrongTable = 10
 numberOf LevelAboveLimit = 11
 numberOf FanOutAboveLimit = 12
+numberOf BufferTooShort = 14

@@ -12,7 +12,7 @@ use Rattle.mig.specs.declared.network.Gate.{Gate}
 use Rattle.mig.specs.declared.network.Network.{Network}
 use Rattle.mig.specs.declared.question.Question.{Question}
 use Rattle.mig.specs.declared.refusal.Refusal.{Refusal}
-use Rattle.mig.specs.declared.refusal.Refusal.the-variants.{InputsAboveFour, TableBitBeyondRows, DepthLimitAboveSeven, FanOutLimitOutOfRange, MalformedNetwork, WrongTable, LevelAboveLimit, FanOutAboveLimit}
+use Rattle.mig.specs.declared.refusal.Refusal.the-variants.{InputsAboveFour, TableBitBeyondRows, DepthLimitAboveSeven, FanOutLimitOutOfRange, MalformedNetwork, WrongTable, LevelAboveLimit, FanOutAboveLimit, BufferTooShort}
 use Rattle.mig.specs.Networks.{Net, netOf, networkOf, size, node, greatestFanOut}
 use Rattle.mig.specs.Tables.{bitAt}
 use Rattle.mig.specs.Questions.{rowBit, level}
@@ -91,6 +91,11 @@ examined q network =
 -- what a call with a number of inputs and a network is refused for, in this order
 abbrev pub formRefusal : ℕ → Network → Option Refusal
 formRefusal n network = orElse (inputsRefusal n) (networkRefusal n network)
+
+-- what a walk over a row of places is refused for, in this order: last, fewer places than nodes
+abbrev pub walkRefusal : ℕ → Network → ℕ → Option Refusal
+walkRefusal n network places =
+    orElse (formRefusal n network) (refuseIf (ltb places (n + 1 + network .count)) BufferTooShort)
 
 -- the answer of `normalise`
 abbrev pub normalisedAnswer : ℕ → Network → Result Network Refusal

@@ -12,6 +12,7 @@ pub enum Refusal {
     WrongTable,
     LevelAboveLimit,
     FanOutAboveLimit,
+    BufferTooShort,
 }
 
 impl Refusal {
@@ -28,6 +29,7 @@ impl Refusal {
             Refusal::WrongTable => 10,
             Refusal::LevelAboveLimit => 11,
             Refusal::FanOutAboveLimit => 12,
+            Refusal::BufferTooShort => 14,
         }
     }
 }

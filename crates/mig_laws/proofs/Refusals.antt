@@ -9,14 +9,17 @@ use Rattle.std.specs.Results.{isOk}
 use Rattle.std.specs.Orderings.{Decides}
 use Rattle.std.specs.declared.option.Option.{Option}
 use Rattle.std.specs.declared.option.Option.the-variants.{Some, None}
-use Rattle.std.proofs.shelf.Tests.{ltb-false, le-ltb, leb-false, lt-leb, leb-true, le-leb, false≢true, not-true, not-from-false, eqb-false, ne-eqb, or-parts, or-from}
+use Rattle.std.specs.declared.result.Result.{Result}
+use Rattle.std.specs.declared.result.Result.the-variants.{Ok, Err}
+use Rattle.std.proofs.shelf.Tests.{true≢false, ltb-false, le-ltb, leb-false, lt-leb, leb-true, le-leb, false≢true, not-true, not-from-false, eqb-false, ne-eqb, or-parts, or-from}
 use Rattle.std.proofs.shelf.Ways.{decides-and, decides-like, decides-at}
 use Rattle.mig.specs.declared.network.Network.{Network}
 use Rattle.mig.specs.declared.question.Question.{Question}
 use Rattle.mig.specs.declared.refusal.Refusal.{Refusal}
+use Rattle.mig.specs.declared.refusal.Refusal.the-variants.{BufferTooShort}
 use Rattle.mig.specs.Networks.{Net, netOf, size, uses, greatest, greatestFanOut, Formed}
 use Rattle.mig.specs.Questions.{Valid, Within, Meets, IsGreatestFanOut, Computes, level}
-use Rattle.mig.specs.Rules.{refuseIf, orElse, unlessRefused, inputsRefusal, questionRefusal, networkRefusal, formRefusal, unmetRefusal, examineRefusal, isFormed, isComputed}
+use Rattle.mig.specs.Rules.{refuseIf, orElse, unlessRefused, inputsRefusal, questionRefusal, networkRefusal, formRefusal, walkRefusal, unmetRefusal, examineRefusal, isFormed, isComputed}
 use Rattle.mig_laws.proofs.Decisions.{decides-formed, decides-computes, decides-leb, decides-greatest, greatest-above, greatest-attained}
 
 -- there is no refusal
@@ -26,6 +29,15 @@ passes o = not (isSome o)
 pub ok-unless : {X : Type 0} (o : Option Refusal) (x : X) → isOk (unlessRefused o x) ≡ passes o
 ok-unless (Some e) x = refl
 ok-unless None x = refl
+
+-- an answer is given exactly if no refusal applies
+pub accepted : {X P : Type 0} (r : Result X Refusal) (o : Option Refusal) (x : X) → r ≡ unlessRefused o x → Decides (passes o) P → Decides (isOk r) P
+accepted r o x e d = decides-at (isOk r) (passes o) (ap isOk e ∙ ok-unless o x) d
+
+-- where an answer is given, no refusal applies
+pub none-from-ok : {X : Type 0} (o : Option Refusal) (x y : X) → Ok y ≡ unlessRefused o x → o ≡ None
+none-from-ok (Some e) x y h = absurd (true≢false (ap isOk h))
+none-from-ok None x y h = refl
 
 pub passes-if : {P : Type 0} (t : Bool) (e : Refusal) → Decides (not t) P → Decides (passes (refuseIf t e)) P
 passes-if true e d = d
@@ -67,8 +79,24 @@ network-passes n network =
     decides-le : (a b : ℕ) → Decides (leb a b) (a ≤ b)
     decides-le a b = (leb-true a b, le-leb a b)
 
-pub form-passes : (n : ℕ) (network : Network) → Decides (passes (formRefusal n network)) ((n ≤ 4) × ((network .count ≤ 7) × Formed n (netOf network)))
-form-passes n network = passes-both _ _ (passes-if _ _ (decides-leb n 4)) (network-passes n network)
+pub form-passes : (n : ℕ) (network : Network) → Decides (passes (formRefusal n network)) ((n ≤ 4) × (network .count ≤ 7) × Formed n (netOf network))
+form-passes n network =
+    decides-like (passes (formRefusal n network)) (λ h. (h .0, h .1 .0, h .1 .1)) (λ h. (h .0, (h .1, h .2)))
+    (passes-both _ _ (passes-if _ _ (decides-leb n 4)) (network-passes n network))
+
+-- a walk over enough places passes exactly if the network does
+pub walk-passes : (n : ℕ) (network : Network) (places : ℕ) → Decides (passes (walkRefusal n network places)) (((n ≤ 4) × (network .count ≤ 7) × Formed n (netOf network)) × (n + 1 + network .count ≤ places))
+walk-passes n network places = passes-both _ _ (form-passes n network) (passes-if _ _ (decides-leb (n + 1 + network .count) places))
+
+-- twelve places are enough for every network
+pub twelve-places : (n : ℕ) (network : Network) → walkRefusal n network 12 ≡ formRefusal n network
+twelve-places n network = at (formRefusal n network) refl
+  where
+    at : (o : Option Refusal) → formRefusal n network ≡ o → orElse o (refuseIf (ltb 12 (n + 1 + network .count)) BufferTooShort) ≡ o
+    at (Some e) h = refl
+    at None h =
+        let f = form-passes n network .0 (ap passes h) in
+        rw (le-ltb 12 (n + 1 + network .count) (omega (arith, f .0, f .1)))
 
 -- a gate by its node, and by its place
 by-node : (n k : ℕ) (P : ℕ → Type 0) → ((i : ℕ) → i < k → P (n + 1 + i)) → (j : ℕ) → n < j → j < n + 1 + k → P j

@@ -6,7 +6,7 @@ use Prim.Native.Nat.{ℕ, zero, suc, _+_, _≤_, _<_}
 use native.Mathlib.Nat.{add-assoc}
 use native.Mathlib.Omega.{arith}
 use lib.ListN.{length, getD, set, take, drop}
-use Rattle.std.proofs.shelf.Lists.{append-assoc, take-more, drop-more, set-at, getD-append-left, length-take-le}
+use Rattle.std.proofs.shelf.Lists.{append-assoc, take-more, drop-more, set-at, getD-append-left, getD-take, length-take-le}
 use Rattle.mig.specs.declared.network.Gate.{Gate}
 use Rattle.mig.specs.Networks.{Kind, node, complemented, emptyGate, valueAt, gateValue, walk, GateBelow, Ordered}
 use Rattle.mig_laws.proofs.Walks.{walk-append, length-walk}
@@ -19,6 +19,12 @@ ordered-at m zero (g ∷ gs) h l = let e : m ≡ m + 0 = omega arith in subst (�
 ordered-at m (suc i) (g ∷ gs) h l =
     let e : (m + 1) + i ≡ m + suc i = omega arith in
     subst (λ (k : ℕ). GateBelow k (getD gs i emptyGate)) e (ordered-at (m + 1) i gs (h .1) (omega arith))
+
+-- the same, where the gates are the first k rows
+pub ordered-row : (m i k : ℕ) (rows : List Gate) → Ordered m (take k rows) → i < k → k ≤ length rows → GateBelow (m + i) (getD rows i emptyGate)
+ordered-row m i k rows h l b =
+    let long = length-take-le k rows b in
+    subst (GateBelow (m + i)) (getD-take k rows i emptyGate l) (ordered-at m i (take k rows) h (omega arith))
 
 -- a code of a node in front stands for the same, whatever is behind
 pub value-front : {V : Type 0} (k : Kind V) (us ws : List V) (c : ℕ) → node c < length us → valueAt k (us ++ ws) c ≡ valueAt k us c

@@ -1,7 +1,7 @@
 // Value kinds, and the walk over a network in any of them.
 mod kinds;
 mod value_kind;
-mod walk;
+mod walks;
 
 pub use kinds::Column;
 pub use kinds::ColumnKind;
@@ -9,4 +9,4 @@ pub use kinds::Level;
 pub use kinds::LevelKind;
 pub use kinds::RowBitKind;
 pub use value_kind::ValueKind;
-pub use walk::output_value;
+pub use walks::walk;

@@ -1,14 +1,16 @@
-use mathlib.Core.Path.{_≡_, refl, sym, ap, _∙_}
-use mathlib.Core.Bool.{Bool, true, false, cond, not, _&&_, _||_}
+use mathlib.Core.Path.{ap}
 use Prim.Native.Nat.{ℕ}
-use lib.Bits.{bitAnd, bitOr, bitXor, xor-assoc, xor-zero-r}
-use Rattle.mig.specs.Tables.{bitAt}
-use Rattle.mig_laws.proofs.Bits.{same-bits, bitAt-and, bitAt-or, bitAt-xor}
+use Rattle.mig_laws.proofs.Columns.{column-lawful}
 use Rattle.value_kinds.specs.declared.kinds.Column.{Column}
 use Rattle.value_kinds.proofs.kinds.ColumnKind.the-impl.Needs as need
 
+column : ℕ → Column
+column n = record { rows = n }
+
 pub complement-twice-law : need.complement-twice-law
-complement-twice-law x = ?
+unfolding column
+complement-twice-law x = ap column (column-lawful 16 .twice (x .rows))
 
 pub complement-all-law : need.complement-all-law
-complement-all-law x y z = ?
+unfolding column
+complement-all-law x y z = ap column (column-lawful 16 .all (x .rows) (y .rows) (z .rows))

@@ -4,11 +4,15 @@ ghost use mathlib.Core.Bool.{_&&_};
 ghost use Prim.Native.Nat.{_+_, _*_, _^_, _≤_, _<_};
 ghost use lib.ListN.{take};
 ghost use lib.Dec.{ltb};
+ghost use Rattle.std.specs.Orderings.{Decides};
+ghost use Rattle.std.specs.Results.{isOk};
+ghost use Rattle.mig.specs.Networks.{netOf, Formed};
+ghost use Rattle.mig.specs.Questions.{Valid};
 ghost use Rattle.mig.specs.Rules.{inputsRefusal, questionRefusal, formRefusal, unlessRefused, isBelow, isOrdered};
-use crate::network::Gate;
-use crate::network::Network;
-use crate::question::Question;
-use crate::refusal::Refusal;
+use mig::Gate;
+use mig::Network;
+use mig::Question;
+use mig::Refusal;
 
 // How many tables there are over some inputs: the bits of each stand below the number of rows.
 pub fn table_count(inputs: u8) -> Result<u32, Refusal>
@@ -23,7 +27,8 @@ pub fn table_count(inputs: u8) -> Result<u32, Refusal>
 
 // The refusal of a question, if there is one.
 pub fn check_question(question: &Question) -> Result<(), Refusal>
-    ensures { λ r. ⌜ r ≡ unlessRefused (questionRefusal (now (question .entry))) tt ⌝ }
+    ensures answer { λ r. ⌜ r ≡ unlessRefused (questionRefusal (now (question .entry))) tt ⌝ }
+    ensures accepted_exactly_when_valid { λ r. ⌜ Decides (isOk r) (Valid (now (question .entry))) ⌝ }
 {
     let tables = table_count(question.inputs)?;
     if question.table >= tables {
@@ -60,7 +65,8 @@ fn gates_ordered(inputs: u8, network: &Network) -> bool
 
 // The refusal of a number of inputs and a network, if there is one.
 pub fn check_network(inputs: u8, network: &Network) -> Result<(), Refusal>
-    ensures { λ r. ⌜ r ≡ unlessRefused (formRefusal inputs (now (network .entry))) tt ⌝ }
+    ensures answer { λ r. ⌜ r ≡ unlessRefused (formRefusal inputs (now (network .entry))) tt ⌝ }
+    ensures accepted_exactly_when_formed { λ r. ⌜ Decides (isOk r) ((inputs ≤ 4) × (now (network .entry) .count ≤ 7) × Formed inputs (netOf (now (network .entry)))) ⌝ }
 {
     if inputs > 4 {
         return Err(Refusal::InputsAboveFour);

@@ -4,7 +4,7 @@ use native.Mathlib.Omega.{arith}
 use lib.Pow.{pow-mono}
 use Rattle.std.proofs.shelf.Bits.{one-shl}
 use Rattle.std.proofs.shelf.Tests.{le-ltb}
-use Rattle.mig.proofs.checks.table_count.Needs as need
+use Rattle.checks.proofs.table_count.Needs as need
 
 -- at most sixteen rows
 few : (n : ℕ) → n ≤ 4 → (1 * 2 ^ n) % 4294967296 ≤ 16

@@ -1,8 +1,8 @@
 use mathlib.Core.Path.{_≡_}
 use Prim.Native.Nat.{_+_}
 use lib.ListN.{take, drop}
 use Rattle.mig.specs.Rules.{isOrdered}
-use Rattle.mig.proofs.checks.gates_ordered.Given as given
+use Rattle.checks.proofs.gates_ordered.Given as given
 
 -- the gates that are left decide
 abbrev pub Inv-loop-i : given.InvT-loop-i

@@ -6,10 +6,10 @@ use native.Mathlib.Nat.{add-assoc}
 use native.Mathlib.Omega.{arith}
 use lib.ListN.{length, getD, take, drop, length-take}
 use Rattle.std.proofs.shelf.Lists.{drop-more, drop-all, getD-take}
 use Rattle.mig.specs.declared.network.Gate.{Gate}
 use Rattle.mig.specs.Networks.{emptyGate}
 use Rattle.mig.specs.Rules.{isBelow, isOrdered}
-use Rattle.mig.proofs.checks.gates_ordered.Needs as need
+use Rattle.checks.proofs.gates_ordered.Needs as need
 
 -- the test of the gates that are left, split into the next one and the rest
 next : (m i k : ℕ) (gs : List Gate) → i < k → k ≤ length gs

@@ -1,17 +1,19 @@
 // The walk over a network: the value of every node, in any kind.
 ghost use mathlib.Core.Path.{_≡_};
-ghost use mathlib.Core.List.{_∷_, _++_};
+ghost use mathlib.Core.List.{_++_};
 ghost use Prim.Native.Nat.{_+_, _/_, _≤_, _<_};
 ghost use lib.ListN.{length, take, drop};
+ghost use Rattle.std.specs.Results.{Cases};
 ghost use Rattle.std.specs.Vec.{made};
 ghost use Rattle.mig.specs.Networks.{netOf, node, valueAt, outputValue, Ordered};
 ghost use Rattle.mig.specs.Networks.{walk as walked};
+ghost use Rattle.value_kinds.specs.Kinds.{startOf};
 ghost use Rattle.mig.specs.Normal.{normalised};
-ghost use Rattle.mig.specs.Rules.{formRefusal, unlessRefused};
+ghost use Rattle.mig.specs.Rules.{walkRefusal, unlessRefused};
+use checks::check_network;
 use crate::value_kind::ValueKind;
 use mig::Network;
 use mig::Refusal;
-use mig::check_network;
 
 // What a code stands for, of the values of the nodes.
 fn code_value<V: ValueKind>(values: &[V], code: u8) -> V
@@ -23,7 +25,7 @@ fn code_value<V: ValueKind>(values: &[V], code: u8) -> V
 }
 
 // Writes the value of each gate behind the values of the first `before` nodes, the constant and the inputs.
-fn walk<V: ValueKind>(network: &Network, before: usize, values: &mut [V])
+fn write_gates<V: ValueKind>(network: &Network, before: usize, values: &mut [V])
     requires few { ⌜ now network .count ≤ 7 ⌝ }
     requires long { ⌜ before + now network .count ≤ length (now values) ⌝ }
     requires ordered { ⌜ Ordered before (take (now network .count) (now network .gates)) ⌝ }
@@ -38,15 +40,19 @@ fn walk<V: ValueKind>(network: &Network, before: usize, values: &mut [V])
     }
 }
 
-// The value of a network's output in any kind, from the values of the inputs; those above `inputs` are ignored.
-pub fn output_value<V: ValueKind>(inputs: u8, network: &Network, input_values: [V; 4]) -> Result<V, Refusal>
-    ensures answer { λ r. ⌜ r ≡ unlessRefused (formRefusal inputs (now (network .entry))) (outputValue kind (kind .constant ∷ take inputs «input_values») (netOf (now (network .entry)))) ⌝ }
-    ensures kept_by_normalising { λ r. ⌜ made r (λ v. v ≡ outputValue kind (kind .constant ∷ take inputs «input_values») (normalised inputs (netOf (now (network .entry))))) ⌝ }
+// The walk, in any kind: from the values of the inputs, in the places from 1 on, the value of every node in its own
+// place. It answers the value of the output.
+pub fn walk<V: ValueKind>(inputs: u8, network: &Network, values: &mut [V]) -> Result<V, Refusal>
+    ensures answer { λ r. ⌜ r ≡ unlessRefused (walkRefusal inputs (now (network .entry)) (length (now (values .entry)))) (outputValue kind (startOf kind inputs (now (values .entry))) (netOf (now (network .entry)))) ⌝ }
+    ensures values_of_all_nodes { λ r. ⌜ Cases r (λ _. now (values .exit) ≡ walked kind (startOf kind inputs (now (values .entry))) (netOf (now (network .entry)) .gates) ++ drop (inputs + 1 + now (network .entry) .count) (now (values .entry))) (λ _. now (values .exit) ≡ now (values .entry)) ⌝ }
+    ensures kept_by_normalising { λ r. ⌜ made r (λ v. v ≡ outputValue kind (startOf kind inputs (now (values .entry))) (normalised inputs (netOf (now (network .entry))))) ⌝ }
 {
     check_network(inputs, network)?;
-    let zero = V::constant();
-    let [a, b, c, d] = input_values;
-    let mut values = [zero, a, b, c, d, zero, zero, zero, zero, zero, zero, zero];
-    walk(network, inputs as usize + 1, &mut values);
-    Ok(code_value(&values, network.output))
+    let before = inputs as usize + 1;
+    if values.len() < before + network.count as usize {
+        return Err(Refusal::BufferTooShort);
+    }
+    values[0] = V::constant();
+    write_gates(network, before, values);
+    Ok(code_value(values, network.output))
 }
