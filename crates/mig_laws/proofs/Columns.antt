@@ -1,12 +1,14 @@
 -- A column of rows is a value kind for every number of rows, and bit t of it is the value in row t.
-use mathlib.Core.Path.{_≡_, refl, sym, ap, ap₂, _∙_}
+use mathlib.Core.Path.{_≡_, refl, sym, ap, ap₂, subst, _∙_}
 use mathlib.Core.Bool.{Bool, true, false, cond, not, _&&_, _||_}
 use mathlib.Core.List.{List, [], _∷_, _++_, map}
 use Prim.Native.Nat.{ℕ, zero, suc, _+_, _-_, _%_, _^_, _≤_, _<_}
 use native.Mathlib.Nat.{zero-add, zero-div, pow-succ'}
 use native.Mathlib.Omega.{arith}
-use lib.Bits.{bitAnd, bitOr, bitXor, xor-assoc, xor-zero-r, xor-self}
+use lib.Bits.{bitAnd, bitOr, bitXor, xor-assoc, xor-zero-r, xor-self, xor-lt, or-lt, and-lt}
 use lib.Dec.{eqb}
+use lib.ListN.{length, getD}
+use lib.Pow.{pow-pos}
 use Rattle.std.proofs.shelf.Lists.{map-push}
 use Rattle.mig.specs.Networks.{Net, Kind, Lawful, majority, bits, outputValue}
 use Rattle.mig.specs.Tables.{bitAt, tableFrom}
@@ -14,7 +16,7 @@ use Rattle.mig.specs.Columns.{columnOf, inputColumns}
 use Rattle.mig.specs.Questions.{inputBits, rowStart, rowBit}
 use Rattle.mig_laws.proofs.Tables.{bitAt-table, table-bits, table-below, bits-same}
 use Rattle.mig_laws.proofs.Bits.{same-bits, bitAt-and, bitAt-or, bitAt-xor}
-use Rattle.mig_laws.proofs.Walks.{Carries, output-carried}
+use Rattle.mig_laws.proofs.Walks.{Carries, output-carried, getD-snoc, walk-keeps-property}
 
 -- each bit of a majority is the majority of the bits
 bitAt-majority : (x y z i : ℕ) → bitAt (bitOr (bitAnd x y) (bitAnd z (bitOr x y))) i ≡ majority (bitAt x i) (bitAt y i) (bitAt z i)
@@ -102,9 +104,30 @@ column-agrees r n t net h =
     sym (output-carried (columnOf r) bits (λ x. bitAt x t) (row-of-column r t h) (0 ∷ inputColumns r n) net)
     ∙ ap (λ vs. outputValue bits vs net) (ap₂ (λ (b : Bool) (bs : List Bool). b ∷ bs) (bitAt-none t) (row-of-inputs r n t h))
 
--- a column below 2^r is the table of the rows' bits
-pub column-table : (r n : ℕ) (net : Net) → outputValue (columnOf r) (0 ∷ inputColumns r n) net < 2 ^ r
-    → outputValue (columnOf r) (0 ∷ inputColumns r n) net ≡ tableFrom r 0 (rowBit n net)
-column-table r n net l =
-    sym (table-bits r 0 (outputValue (columnOf r) (0 ∷ inputColumns r n) net) (rowBit n net) l
+-- the columns of the constant and the inputs have r bits
+start-below : (r n j : ℕ) → getD (0 ∷ inputColumns r n) j 0 < 2 ^ r
+unfolding inputColumns
+start-below r zero j = at j
+  where
+    at : (j : ℕ) → getD (0 ∷ []) j 0 < 2 ^ r
+    at zero = pow-pos r
+    at (suc j) = pow-pos r
+start-below r (suc n) j =
+    subst (λ (x : ℕ). x < 2 ^ r) (sym (getD-snoc (0 ∷ inputColumns r n) (tableFrom r 0 (λ t. bitAt t n)) 0 j))
+    (pick (eqb j (length (0 ∷ inputColumns r n))) (start-below r n j) (table-below r 0 (λ t. bitAt t n)))
+  where
+    pick : {u v : ℕ} (b : Bool) → v < 2 ^ r → u < 2 ^ r → cond b u v < 2 ^ r
+    pick true p q = q
+    pick false p q = p
+
+pub column-below : (r n : ℕ) (net : Net) → outputValue (columnOf r) (0 ∷ inputColumns r n) net < 2 ^ r
+column-below r n net =
+    walk-keeps-property (columnOf r) (λ x. x < 2 ^ r) (λ x p. xor-lt r x (2 ^ r - 1) p (omega (arith, pow-pos r)))
+    (λ x y z p q s. or-lt r (bitAnd x y) (bitAnd z (bitOr x y)) (and-lt r x y p q) (and-lt r z (bitOr x y) s (or-lt r x y p q)))
+    (0 ∷ inputColumns r n) (start-below r n) (net .gates) (net .output)
+
+-- the output's column is the table of the rows' bits
+pub column-table : (r n : ℕ) (net : Net) → outputValue (columnOf r) (0 ∷ inputColumns r n) net ≡ tableFrom r 0 (rowBit n net)
+column-table r n net =
+    sym (table-bits r 0 (outputValue (columnOf r) (0 ∷ inputColumns r n) net) (rowBit n net) (column-below r n net)
     (λ i h. ap (rowBit n net) (zero-add i) ∙ sym (column-agrees r n i net h)))

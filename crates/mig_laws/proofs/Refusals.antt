@@ -39,6 +39,11 @@ pub none-from-ok : {X : Type 0} (o : Option Refusal) (x y : X) → Ok y ≡ unle
 none-from-ok (Some e) x y h = absurd (true≢false (ap isOk h))
 none-from-ok None x y h = refl
 
+-- two answers that are equal where none is refused
+pub unless-same : {X : Type 0} (o : Option Refusal) (x y : X) → (o ≡ None → x ≡ y) → unlessRefused o x ≡ unlessRefused o y
+unless-same (Some e) x y h = refl
+unless-same None x y h = ap Ok (h refl)
+
 pub passes-if : {P : Type 0} (t : Bool) (e : Refusal) → Decides (not t) P → Decides (passes (refuseIf t e)) P
 passes-if true e d = d
 passes-if false e d = d

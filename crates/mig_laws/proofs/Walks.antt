@@ -97,3 +97,31 @@ walk-carried k l h e vs (g ∷ gs) =
 
 pub output-carried : {V W : Type 0} (k : Kind V) (l : Kind W) (h : V → W) → Carries k l h → (vs : List V) (net : Net) → outputValue l (map h vs) net ≡ h (outputValue k vs net)
 output-carried k l h e vs net = rw (walk-carried k l h e vs (net .gates)) (value-carried k l h e (walk k vs (net .gates)) (net .output))
+
+-- a property that complements keep holds of what a code stands for, if it holds of every node
+value-keeps-property : {V : Type 0} (k : Kind V) (P : V → Type 0) → ((x : V) → P x → P (k .complement x))
+    → (vs : List V) → ((j : ℕ) → P (getD vs j (k .constant))) → (c : ℕ) → P (valueAt k vs c)
+value-keeps-property {V} k P flips vs h c = at (complemented c) (getD vs (node c) (k .constant)) (h (node c))
+  where
+    at : (b : Bool) (v : V) → P v → P (cond b (k .complement v) v)
+    at true v p = flips v p
+    at false v p = p
+
+-- a property that complements and majorities keep holds of the output, if it holds of the constant and the inputs
+pub walk-keeps-property : {V : Type 0} (k : Kind V) (P : V → Type 0)
+    → ((x : V) → P x → P (k .complement x)) → ((x y z : V) → P x → P y → P z → P (k .majority x y z))
+    → (vs : List V) → ((j : ℕ) → P (getD vs j (k .constant)))
+    → (gs : List Gate) (c : ℕ) → P (valueAt k (walk k vs gs) c)
+unfolding walk
+walk-keeps-property k P flips joins vs h [] c = value-keeps-property k P flips vs h c
+walk-keeps-property {V} k P flips joins vs h (g ∷ gs) c =
+    let x = value-keeps-property k P flips vs h (g .first) in
+    let y = value-keeps-property k P flips vs h (g .second) in
+    let z = value-keeps-property k P flips vs h (g .third) in
+    let v = joins (valueAt k vs (g .first)) (valueAt k vs (g .second)) (valueAt k vs (g .third)) x y z in
+    walk-keeps-property k P flips joins (vs ++ gateValue k vs g ∷ [])
+    (λ j. subst P (sym (getD-snoc vs (gateValue k vs g) (k .constant) j)) (pick (eqb j (length vs)) (h j) v)) gs c
+  where
+    pick : {u v : V} (b : Bool) → P v → P u → P (cond b u v)
+    pick true p q = q
+    pick false p q = p
