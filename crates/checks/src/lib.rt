@@ -1,12 +1,11 @@
 // The refusals that many calls share: those of a question, and those of a malformed network.
 ghost use mathlib.Core.Path.{_≡_};
-ghost use mathlib.Core.Bool.{_&&_};
-ghost use Prim.Native.Nat.{_+_, _*_, _^_, _≤_, _<_};
-ghost use lib.ListN.{take};
-ghost use lib.Dec.{ltb};
+ghost use mathlib.Core.Bool.{true};
+ghost use Prim.Native.Nat.{_+_, _^_, _≤_};
 ghost use Rattle.std.specs.Orderings.{Decides};
 ghost use Rattle.std.specs.Results.{isOk};
-ghost use Rattle.mig.specs.Networks.{netOf, Formed};
+ghost use Rattle.std.specs.Vec.{made};
+ghost use Rattle.mig.specs.Networks.{netOf, size, Formed};
 ghost use Rattle.mig.specs.Questions.{Valid};
 ghost use Rattle.mig.specs.Rules.{inputsRefusal, questionRefusal, formRefusal, unlessRefused, isBelow, isOrdered};
 use mig::Gate;
@@ -53,7 +52,8 @@ fn names_below(gate: &Gate, nodes: u8) -> bool
 // Whether each gate names earlier nodes only.
 fn gates_ordered(inputs: u8, network: &Network) -> bool
     requires { ⌜ inputs ≤ 4 ⌝ ∗ ⌜ now network .count ≤ 7 ⌝ }
-    ensures { λ r. ⌜ r ≡ isOrdered (inputs + 1) (take (now (network .entry) .count) (now (network .entry) .gates)) ⌝ }
+    ensures ordered { λ r. ⌜ r ≡ isOrdered (inputs + 1) (netOf (now (network .entry)) .gates) ⌝ }
+    ensures all_read { λ r. ⌜ (r ≡ true → size (netOf (now (network .entry))) ≡ now (network .entry) .count) ⌝ }
 {
     for i in 0..network.count {
         if !names_below(&network.gates[i as usize], inputs + 1 + i) {
@@ -67,6 +67,7 @@ fn gates_ordered(inputs: u8, network: &Network) -> bool
 pub fn check_network(inputs: u8, network: &Network) -> Result<(), Refusal>
     ensures answer { λ r. ⌜ r ≡ unlessRefused (formRefusal inputs (now (network .entry))) tt ⌝ }
     ensures accepted_exactly_when_formed { λ r. ⌜ Decides (isOk r) ((inputs ≤ 4) × (now (network .entry) .count ≤ 7) × Formed inputs (netOf (now (network .entry)))) ⌝ }
+    ensures count_is_size { λ r. ⌜ made r (λ _. size (netOf (now (network .entry))) ≡ now (network .entry) .count) ⌝ }
 {
     if inputs > 4 {
         return Err(Refusal::InputsAboveFour);

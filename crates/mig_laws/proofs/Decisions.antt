@@ -3,16 +3,18 @@ use mathlib.Core.Path.{_≡_, refl, sym, ap, subst, _∙_}
 use mathlib.Core.Bool.{Bool, true, false, cond, not, _&&_, Bool·beq}
 use mathlib.Core.List.{List, [], _∷_}
 use mathlib.Core.Logic.{_⊎_, inl, inr}
-use Prim.Native.Nat.{ℕ, zero, suc, _+_, _^_, _≤_, _<_, max}
+use Prim.Native.Nat.{ℕ, zero, suc, _+_, _%_, _^_, _≤_, _<_, max}
+use native.Mathlib.Nat.{zero-add}
 use native.Mathlib.Omega.{arith}
-use lib.Dec.{ltb, leb}
+use lib.Dec.{eqb, ltb, leb}
 use Rattle.std.specs.Orderings.{Decides}
-use Rattle.std.proofs.shelf.Ways.{decides-and, decides-ltb, decides-like, decides-below-and}
-use Rattle.std.proofs.shelf.Tests.{cases-eq, cases-lt, ltb-false, le-ltb, not-true, not-from-false}
+use Rattle.std.proofs.shelf.Ways.{decides-and, decides-ltb, decides-like, decides-below-and, same-from-decides}
+use Rattle.std.proofs.shelf.Tests.{cases-eq, cases-lt, eqb-true, eq-eqb, ltb-false, le-ltb, not-true, not-from-false}
 use Rattle.mig.specs.declared.network.Gate.{Gate}
 use Rattle.mig.specs.Networks.{Net, size, node, GateBelow, Ordered, Formed, greatest}
-use Rattle.mig.specs.Tables.{bitAt}
+use Rattle.mig.specs.Tables.{bitAt, tableFrom}
 use Rattle.mig.specs.Questions.{rowBit, Computes}
+use Rattle.mig_laws.proofs.Tables.{bitAt-table, table-bits, table-front}
 use Rattle.mig.specs.Rules.{isBelow, isOrdered, isFormed, allBelow, isComputed}
 
 decides-below : (m : ℕ) (g : Gate) → Decides (isBelow m g) (GateBelow m g)
@@ -41,6 +43,20 @@ unfolding allBelow
 decides-computes n table net =
     decides-below-and (λ t. Bool·beq (rowBit n net t) (bitAt table t)) (λ t. rowBit n net t ≡ bitAt table t)
     (λ k. allBelow k (λ t. Bool·beq (rowBit n net t) (bitAt table t))) (λ t. decides-beq (rowBit n net t) (bitAt table t)) refl (λ _. refl) (2 ^ n)
+
+-- a table is computed exactly if it is the table of the rows' bits
+table-decides : (n table : ℕ) (net : Net) → table < 2 ^ (2 ^ n) → Decides (eqb (tableFrom (2 ^ n) 0 (rowBit n net)) table) (Computes n table net)
+table-decides n table net h = (
+  λ e t l. sym (bitAt-table (2 ^ n) 0 (rowBit n net) t l ∙ ap (rowBit n net) (zero-add t)) ∙ ap (λ (x : ℕ). bitAt x t) (eqb-true _ table e),
+  λ c. eq-eqb _ table (table-bits (2 ^ n) 0 table (rowBit n net) h (λ i l. ap (rowBit n net) (zero-add i) ∙ c i l)),
+)
+
+-- the first rows of a column tell whether a table is computed
+pub column-decides : (r n table : ℕ) (net : Net) → 2 ^ n ≤ r → table < 2 ^ (2 ^ n)
+    → eqb (tableFrom r 0 (rowBit n net) % 2 ^ (2 ^ n)) table ≡ isComputed n table net
+column-decides r n table net l h =
+    ap (λ (x : ℕ). eqb x table) (table-front r (2 ^ n) (rowBit n net) l)
+    ∙ same-from-decides _ (isComputed n table net) (table-decides n table net h) (decides-computes n table net)
 
 -- the greatest of some numbers is at least each of them
 pub greatest-above : (k : ℕ) (f : ℕ → ℕ) (i : ℕ) → i < k → f i ≤ greatest k f

@@ -16,10 +16,10 @@ use Rattle.std.proofs.shelf.Ways.{decides-and, decides-like, decides-at}
 use Rattle.mig.specs.declared.network.Network.{Network}
 use Rattle.mig.specs.declared.question.Question.{Question}
 use Rattle.mig.specs.declared.refusal.Refusal.{Refusal}
-use Rattle.mig.specs.declared.refusal.Refusal.the-variants.{BufferTooShort}
+use Rattle.mig.specs.declared.refusal.Refusal.the-variants.{InputsAboveFour, BufferTooShort}
 use Rattle.mig.specs.Networks.{Net, netOf, size, uses, greatest, greatestFanOut, Formed}
 use Rattle.mig.specs.Questions.{Valid, Within, Meets, IsGreatestFanOut, Computes, level}
-use Rattle.mig.specs.Rules.{refuseIf, orElse, unlessRefused, inputsRefusal, questionRefusal, networkRefusal, formRefusal, walkRefusal, unmetRefusal, examineRefusal, isFormed, isComputed}
+use Rattle.mig.specs.Rules.{refuseIf, orElse, unlessRefused, inputsRefusal, questionRefusal, networkRefusal, formRefusal, walkRefusal, unmetRefusal, examineRefusal, examined, isFormed, isComputed}
 use Rattle.mig_laws.proofs.Decisions.{decides-formed, decides-computes, decides-leb, decides-greatest, greatest-above, greatest-attained}
 
 -- there is no refusal
@@ -38,6 +38,14 @@ accepted r o x e d = decides-at (isOk r) (passes o) (ap isOk e ∙ ok-unless o x
 pub none-from-ok : {X : Type 0} (o : Option Refusal) (x y : X) → Ok y ≡ unlessRefused o x → o ≡ None
 none-from-ok (Some e) x y h = absurd (true≢false (ap isOk h))
 none-from-ok None x y h = refl
+
+pub value-from-ok : {X : Type 0} (o : Option Refusal) (x y : X) → Ok y ≡ unlessRefused o x → y ≡ x
+value-from-ok (Some e) x y h = absurd (true≢false (ap isOk h))
+value-from-ok None x y h = cc
+
+pub some-from-err : {X : Type 0} (o : Option Refusal) (x : X) (e : Refusal) → Err e ≡ unlessRefused o x → o ≡ Some e
+some-from-err (Some d) x e h = cc
+some-from-err None x e h = absurd (false≢true (ap isOk h))
 
 -- two answers that are equal where none is refused
 pub unless-same : {X : Type 0} (o : Option Refusal) (x y : X) → (o ≡ None → x ≡ y) → unlessRefused o x ≡ unlessRefused o y
@@ -129,6 +137,13 @@ examine-passes q network =
     (λ h. (h .0, h .1 .0 .0, record { formed = h .1 .0 .1; computes = h .1 .1 .0; within = h .1 .1 .1 }))
     (λ h. (h .0, ((h .1, h .2 .formed), (h .2 .computes, h .2 .within))))
     (passes-both _ _ (question-passes q) (passes-both _ _ (network-passes (q .inputs) network) (unmet-passes q (netOf network))))
+
+-- the answer of `examine` to a question within bounds: the form of the network first, then what it computes
+pub examined-network : (q : Question) (network : Network) → questionRefusal q ≡ None
+    → examined q network ≡ unlessRefused (orElse (formRefusal (q .inputs) network) (unmetRefusal q (netOf network))) (level (q .inputs) (netOf network), greatestFanOut (q .inputs) (netOf network))
+examined-network q network a =
+    let i : inputsRefusal (q .inputs) ≡ None = ap (λ (t : Bool). refuseIf t InputsAboveFour) (le-ltb 4 (q .inputs) (question-passes q .0 (ap passes a) .inputs)) in
+    rw (a, i)
 
 -- the greatest fan-out, by its gates
 pub greatest-fan-out : (n : ℕ) (net : Net) → IsGreatestFanOut n net (greatestFanOut n net)

@@ -1,10 +1,11 @@
 -- Tables and their rows, for every number of rows.
 use mathlib.Core.Path.{_≡_, refl, sym, ap, ap₂, _∙_}
 use mathlib.Core.Bool.{Bool, true, false, cond}
-use Prim.Native.Nat.{ℕ, zero, suc, _+_, _*_, _/_, _%_, _^_, _≤_, _<_}
-use native.Mathlib.Nat.{zero-add, pow-succ', div-div-eq-div-mul, div-one, pow-zero}
+use Prim.Native.Nat.{ℕ, zero, suc, _+_, _-_, _*_, _/_, _%_, _^_, _≤_, _<_}
+use native.Mathlib.Nat.{zero-add, pow-succ', div-div-eq-div-mul, div-one, pow-zero, mul-left-comm}
 use native.Mathlib.Omega.{arith}
 use lib.Dec.{eqb}
+use Rattle.std.proofs.shelf.Bits.{mod-low}
 use Rattle.mig.specs.Tables.{bitAt, tableFrom}
 
 -- a bit as a number
@@ -91,3 +92,26 @@ bits-same r x y hx hy e =
 pub below-power : (n : ℕ) → n < 2 ^ n
 below-power zero = omega (arith, pow-zero 2)
 below-power (suc n) = omega (arith, pow-succ' 2 n, below-power n)
+
+-- a table of s + d rows is one of s rows with one of d rows above it
+table-split : (s d t : ℕ) (g : ℕ → Bool) → tableFrom (s + d) t g ≡ tableFrom d (t + s) g * 2 ^ s + tableFrom s t g
+unfolding tableFrom
+table-split zero d t g =
+    let a : zero + d ≡ d = omega arith in
+    let b : t + zero ≡ t = omega arith in
+    rw (a, b, pow-zero 2) (omega arith)
+table-split (suc s) d t g =
+    let a : suc s + d ≡ suc (s + d) = omega arith in
+    let b : t + suc s ≡ (t + 1) + s = omega arith in
+    let rest = table-split s d (t + 1) g in
+    let p : tableFrom d ((t + 1) + s) g * 2 ^ suc s ≡ 2 * (tableFrom d ((t + 1) + s) g * 2 ^ s) =
+    ap (λ (x : ℕ). tableFrom d ((t + 1) + s) g * x) (pow-succ' 2 s) ∙ mul-left-comm (tableFrom d ((t + 1) + s) g) 2 (2 ^ s) in
+    rw (a, b) (omega (arith, rest, p))
+
+-- the first s rows of a table
+pub table-front : (r s : ℕ) (g : ℕ → Bool) → s ≤ r → tableFrom r 0 g % 2 ^ s ≡ tableFrom s 0 g
+table-front r s g h =
+    let e : r ≡ s + (r - s) = omega arith in
+    ap (λ (k : ℕ). tableFrom k 0 g % 2 ^ s) e
+    ∙ ap (λ (x : ℕ). x % 2 ^ s) (table-split s (r - s) 0 g)
+    ∙ mod-low (tableFrom (r - s) (0 + s) g) s (tableFrom s 0 g) (table-below s 0 g)
