@@ -3,10 +3,11 @@ use mathlib.Core.Path.{_≡_}
 use mathlib.Core.Bool.{Bool, cond}
 use mathlib.Core.List.{List, map}
 use Prim.Native.Nat.{ℕ, zero, suc, _+_, _-_, _*_, _%_, _≤_, _<_}
-use lib.ListN.{getD, set}
+use lib.ListN.{getD, set, replicate}
 use lib.Dec.{eqb, leb}
 use Rattle.mig.specs.declared.network.Gate.{Gate}
-use Rattle.mig.specs.Networks.{Net, size, node, complemented, emptyGate}
+use Rattle.mig.specs.Networks.{Net, size, node, complemented, emptyGate, walk, levels, uses}
+use Rattle.mig.specs.Questions.{level}
 
 -- the code of the same node with the other complement
 abbrev pub flip : ℕ → ℕ
@@ -57,3 +58,11 @@ normalised n net = firstNormalised n (size net) net
 pub record SameNodes (net other : Net) : Type 0 where
   pub gates : map (mapGate node) (other .gates) ≡ map (mapGate node) (net .gates)
   pub output : node (other .output) ≡ node (net .output)
+
+-- the same nodes at every place, so the same number of gates, and the same level and fan-out for every node
+pub record SameShape (n : ℕ) (net other : Net) : Type 0 where
+  pub nodes : SameNodes net other
+  pub gates : size other ≡ size net
+  pub levels : walk levels (replicate (n + 1) 0) (other .gates) ≡ walk levels (replicate (n + 1) 0) (net .gates)
+  pub level : level n other ≡ level n net
+  pub fan-outs : (j : ℕ) → uses j other ≡ uses j net

@@ -5,16 +5,19 @@ use mathlib.Core.List.{List, [], _∷_, _++_, map}
 use mathlib.Core.Logic.{_⊎_, inl, inr}
 use Prim.Native.Nat.{ℕ, zero, suc, _+_, _≤_, _<_}
 use native.Mathlib.Omega.{arith}
-use lib.ListN.{length, getD, set, take, drop}
+use lib.ListN.{length, getD, set, take, drop, replicate}
 use lib.Dec.{eqb, leb}
 use Rattle.std.proofs.shelf.Lists.{append-assoc, map-append, map-set, set-getD, set-at, getD-map, getD-at, getD-append-left, take-append-drop, drop-more, length-take-le, length-append, getD-take}
 use Rattle.std.proofs.shelf.Tests.{ne-eqb, cond-false, cond-true, cases-bool, cases-lt, cases-eq, leb-true, leb-false, lt-leb}
 use Rattle.mig.specs.declared.network.Gate.{Gate}
-use Rattle.mig.specs.Networks.{Net, size, Kind, Lawful, node, emptyGate, valueAt, gateValue, walk, outputValue, Ordered, Formed}
-use Rattle.mig.specs.Normal.{flip, flipNaming, mapGate, complements, gateAt, Normal, turned, gateNormalised, firstNormalised, normalised, SameNodes}
+use Rattle.mig.specs.declared.question.Question.{Question}
+use Rattle.mig.specs.Networks.{Net, size, Kind, Lawful, node, emptyGate, valueAt, gateValue, walk, outputValue, Ordered, Formed, bits, levels}
+use Rattle.mig.specs.Questions.{inputBits, rowStart, rowBit, Meets}
+use Rattle.mig.specs.Normal.{flip, flipNaming, mapGate, complements, gateAt, Normal, turned, gateNormalised, firstNormalised, normalised, SameNodes, SameShape}
 use Rattle.mig_laws.proofs.Walks.{walk-append, length-walk, ordered-left}
+use Rattle.mig_laws.proofs.RowBits.{bits-lawful, length-inputBits}
 use Rattle.mig_laws.proofs.Flips.{node-flip, node-flipNaming, gate-flip, TurnedAt, value-turned, turned-start, walk-turned, complements-flip}
-use Rattle.mig_laws.proofs.Nodes.{same-size, same-formed, same-refl, same-trans}
+use Rattle.mig_laws.proofs.Nodes.{same-size, same-formed, same-levels, same-uses, same-refl, same-trans, level-at}
 
 -- gates that stand before the node m do not name it
 unnamed : (m k : ℕ) (gs : List Gate) → Ordered k gs → k + length gs ≤ m → map (mapGate (flipNaming m)) gs ≡ gs
@@ -188,3 +191,50 @@ first-normal n (suc i) net h l =
 
 pub normal-stays : (n : ℕ) (net : Net) → Normal net → normalised n net ≡ net
 normal-stays n net h = first-normal n (size net) net h (omega arith)
+
+-- the normalised network has the same shape
+pub normalised-shape : (n : ℕ) (net : Net) → Formed n net → SameShape n net (normalised n net)
+normalised-shape n net h =
+    let s = normalised-nodes n net h in
+    let l = same-levels net (normalised n net) s (replicate (n + 1) 0) in
+    record {
+      nodes = s;
+      gates = same-size net (normalised n net) s;
+      levels = l;
+      level =
+          level-at (walk levels (replicate (n + 1) 0) (normalised n net .gates)) (normalised n net .output)
+          ∙ rw (l, s .output) (sym (level-at (walk levels (replicate (n + 1) 0) (net .gates)) (net .output)));
+      fan-outs = same-uses net (normalised n net) s;
+    }
+
+-- the normalised network computes the same in every row
+normalised-row : (n : ℕ) (net : Net) → Formed n net → (t : ℕ) → rowBit n (normalised n net) t ≡ rowBit n net t
+normalised-row n net h t = normalised-keeps-value bits bits-lawful n net h (rowStart n t) (let l = length-inputBits n t in omega arith)
+
+-- the normalised network meets the questions that the network meets
+pub normalised-meets : (q : Question) (net : Net) → Meets q net → Meets q (normalised (q .inputs) net)
+normalised-meets q net h =
+    let n = q .inputs in
+    let s = normalised-shape n net (h .formed) in
+    record {
+      formed = normalised-formed n net (h .formed);
+      computes = λ t l. normalised-row n net (h .formed) t ∙ h .computes t l;
+      within = record {
+        level = rw (s .level) (h .within .level);
+        fan-outs = λ j a b. rw (s .fan-outs j) (h .within .fan-outs j a (omega (arith, s .gates)));
+      };
+    }
+
+-- and no others
+pub met-when-normalised : (q : Question) (net : Net) → Formed (q .inputs) net → Meets q (normalised (q .inputs) net) → Meets q net
+met-when-normalised q net f h =
+    let n = q .inputs in
+    let s = normalised-shape n net f in
+    record {
+      formed = f;
+      computes = λ t l. sym (normalised-row n net f t) ∙ h .computes t l;
+      within = record {
+        level = rw (← s .level) (h .within .level);
+        fan-outs = λ j a b. rw (← s .fan-outs j) (h .within .fan-outs j a (omega (arith, s .gates)));
+      };
+    }
