@@ -72,7 +72,10 @@ pub fn check_network(inputs: u8, network: &Network) -> Result<(), Refusal>
     if inputs > 4 {
         return Err(Refusal::InputsAboveFour);
     }
-    if network.count > 7 || !gates_ordered(inputs, network) || network.output / 2 >= inputs + 1 + network.count {
+    if network.count > 7
+        || !gates_ordered(inputs, network)
+        || network.output / 2 >= inputs + 1 + network.count
+    {
         return Err(Refusal::MalformedNetwork);
     }
     Ok(())

@@ -8,14 +8,14 @@ ghost use Rattle.mig.specs.Networks.{netOf};
 ghost use Rattle.mig.specs.Questions.{Valid, Meets, IsGreatestFanOut};
 ghost use Rattle.mig.specs.Questions.{level as levelOf};
 ghost use Rattle.mig.specs.Rules.{examined};
+use crate::fan_outs::greatest_fan_out;
 use checks::check_question;
 use checks::table_count;
-use crate::fan_outs::greatest_fan_out;
 use mig::Network;
 use mig::Question;
 use mig::Refusal;
-use value_kinds::column;
-use value_kinds::level;
+use outputs::column;
+use outputs::level;
 
 // The level and the greatest fan-out of a gate, of a network that meets the question.
 pub fn examine(question: &Question, network: &Network) -> Result<(u8, u8), Refusal>

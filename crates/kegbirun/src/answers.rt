@@ -39,20 +39,32 @@ fn refusal_words(refusal: Refusal) -> &'static str {
     }
 }
 
-fn write_refusal<W: fmt::Write>(f: &mut fmt::Formatter<W>, command: &str, refusal: Refusal) -> fmt::Result {
+fn write_refusal<W: fmt::Write>(
+    f: &mut fmt::Formatter<W>,
+    command: &str,
+    refusal: Refusal,
+) -> fmt::Result {
     let number = refusal.number();
     let words = refusal_words(refusal);
     write!(f, "{command}: refused {number} {words}")
 }
 
 fn write_gate<W: fmt::Write>(f: &mut fmt::Formatter<W>, gate: Gate) -> fmt::Result {
-    let Gate { first, second, third } = gate;
+    let Gate {
+        first,
+        second,
+        third,
+    } = gate;
     write!(f, "{first}.{second}.{third}")
 }
 
 // A well-formed network as one word.
 fn write_network<W: fmt::Write>(f: &mut fmt::Formatter<W>, network: Network) -> fmt::Result {
-    for (i, gate) in network.gates.iter().take(network.count as usize).enumerate() {
+    for (i, gate) in network
+        .gates
+        .iter()
+        .take(network.count as usize)
+        .enumerate() {
         if i > 0 {
             f.write_str(",")?;
         }
@@ -65,7 +77,10 @@ fn write_network<W: fmt::Write>(f: &mut fmt::Formatter<W>, network: Network) -> 
 pub(crate) impl fmt::Display for Answer as AnswerDisplay {
     fn fmt<W: fmt::Write>(&self, f: &mut fmt::Formatter<W>) -> fmt::Result {
         match *self {
-            Answer::Examined(Ok((level, fan_out))) => write!(f, "examine: level {level} fan-out {fan_out}"),
+            Answer::Examined(Ok((level, fan_out))) => write!(
+                f,
+                "examine: level {level} fan-out {fan_out}"
+            ),
             Answer::Examined(Err(refusal)) => write_refusal(f, "examine", refusal),
             Answer::Normalised(Ok(network)) => {
                 f.write_str("normalise: ")?;
@@ -78,13 +93,15 @@ pub(crate) impl fmt::Display for Answer as AnswerDisplay {
 
 pub(crate) impl fmt::Display for Unreadable as UnreadableDisplay {
     fn fmt<W: fmt::Write>(&self, f: &mut fmt::Formatter<W>) -> fmt::Result {
-        f.write_str(match *self {
-            Unreadable::UnknownCommand => "unknown command",
-            Unreadable::TooFewWords => "too few words for this command",
-            Unreadable::TooManyWords => "too many words for this command",
-            Unreadable::NoNumber => "not a decimal number",
-            Unreadable::NoTable => "not a hexadecimal table",
-            Unreadable::NoNetwork => "not a network",
-        })
+        f.write_str(
+            match *self {
+                Unreadable::UnknownCommand => "unknown command",
+                Unreadable::TooFewWords => "too few words for this command",
+                Unreadable::TooManyWords => "too many words for this command",
+                Unreadable::NoNumber => "not a decimal number",
+                Unreadable::NoTable => "not a hexadecimal table",
+                Unreadable::NoNetwork => "not a network",
+            },
+        )
     }
 }

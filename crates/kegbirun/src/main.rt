@@ -39,16 +39,30 @@ fn answer_all<R: BufRead + Drop>(rt: &LibcRuntime, mut input: R) -> Result<(), A
     Ok(())
 }
 
+// Answers each line of the file.
+fn answer_file(rt: &LibcRuntime, path: &str) -> Result<(), AnyError> {
+    match File::open(rt, path) {
+        Ok(file) => answer_all(rt, BufReader::new(file)),
+        Err(why) => Err(format!(rt.alloc(), "cannot open {path}: {why}")?.into()),
+    }
+}
+
 fn run(rt: &LibcRuntime) -> Result<(), AnyError> {
     let mut words = env::args(rt)?;
     let _program = words.next();
     match (words.next(), words.next()) {
         (None, _) => answer_all(rt, BufReader::new(rt.stdin())),
-        (Some(path), None) => answer_all(rt, BufReader::new(File::open(rt, path.as_str())?)),
+        (Some(path), None) => answer_file(rt, path.as_str()),
         _ => Err("usage: kegbirun [FILE]".into()),
     }
 }
 
 fn main(rt: LibcRuntime) -> Result<(), AnyError> {
-    rt.report(run(&rt))
+    match run(&rt) {
+        Ok(()) => Ok(()),
+        Err(why) => {
+            eprintln!(rt, "kegbirun: {why}")?;
+            Err(why)
+        }
+    }
 }

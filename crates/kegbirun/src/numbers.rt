@@ -23,7 +23,10 @@ fn number(word: &str, base: u8, most: u32) -> Option<u32>
     let mut value = 0u32;
     for byte in word.bytes() {
         let next = digit(byte, base)?;
-        value = value.saturating_mul(u32::from(base)).saturating_add(u32::from(next)).min(most);
+        value = value
+            .saturating_mul(u32::from(base))
+            .saturating_add(u32::from(next))
+            .min(most);
     }
     Some(value)
 }

@@ -49,12 +49,12 @@ gate-read net i h = getD-append-left (net .gates) (replicate (7 - size net) empt
 -- turning a gate, in the places
 pub turned-places : (n i : ℕ) (network : Network) → i < network .count → network ≡ networkOf (netOf network)
     → _≡_ {A = Network}
-        (record {
-          count = network .count;
-          gates = set (map (mapGate (flipNaming (n + 1 + i))) (take (network .count) (network .gates)) ++ drop (network .count) (network .gates)) i (mapGate flip (getD (network .gates) i emptyGate));
-          output = flipNaming (n + 1 + i) (network .output);
-        })
-        (networkOf (turned n i (netOf network)))
+    (record {
+      count = network .count;
+      gates = set (map (mapGate (flipNaming (n + 1 + i))) (take (network .count) (network .gates)) ++ drop (network .count) (network .gates)) i (mapGate flip (getD (network .gates) i emptyGate));
+      output = flipNaming (n + 1 + i) (network .output);
+    })
+    (networkOf (turned n i (netOf network)))
 turned-places n i network h e =
     let f = mapGate (flipNaming (n + 1 + i)) in
     let k = network .count in

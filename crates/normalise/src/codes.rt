@@ -15,7 +15,11 @@ fn flipped(code: u8) -> u8
 pub(crate) fn flipped_naming(code: u8, node: u8) -> u8
     ensures { λ r. ⌜ r ≡ flipNaming node code ⌝ }
 {
-    if code / 2 == node { flipped(code) } else { code }
+    if code / 2 == node {
+        flipped(code)
+    } else {
+        code
+    }
 }
 
 // The gate with its three fan-ins flipped.

@@ -1,2 +1,1 @@
-mod ByKind
 mod Places

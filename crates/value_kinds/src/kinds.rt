@@ -39,11 +39,15 @@ pub impl ValueKind for Column as ColumnKind {
     }
 
     fn complement(self) -> Column {
-        Column { rows: self.rows ^ 0xffff }
+        Column {
+            rows: self.rows ^ 0xffff,
+        }
     }
 
     fn majority(a: Column, b: Column, c: Column) -> Column {
-        Column { rows: (a.rows & b.rows) | (c.rows & (a.rows | b.rows)) }
+        Column {
+            rows: (a.rows & b.rows) | (c.rows & (a.rows | b.rows)),
+        }
     }
 }
 
@@ -59,6 +63,8 @@ pub impl ValueKind for Level as LevelKind {
     }
 
     fn majority(a: Level, b: Level, c: Level) -> Level {
-        Level { value: a.value.max(b.value.max(c.value)).saturating_add(1) }
+        Level {
+            value: a.value.max(b.value.max(c.value)).saturating_add(1),
+        }
     }
 }

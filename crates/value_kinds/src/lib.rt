@@ -1,6 +1,5 @@
 // Value kinds, and the walk over a network in any of them.
 mod kinds;
-mod outputs;
 mod value_kind;
 mod walks;
 
@@ -9,8 +8,5 @@ pub use kinds::ColumnKind;
 pub use kinds::Level;
 pub use kinds::LevelKind;
 pub use kinds::RowBitKind;
-pub use outputs::column;
-pub use outputs::level;
-pub use outputs::row_bit;
 pub use value_kind::ValueKind;
 pub use walks::walk;

@@ -10,8 +10,8 @@ ghost use Rattle.mig.specs.Networks.{walk as walked};
 ghost use Rattle.value_kinds.specs.Kinds.{startOf};
 ghost use Rattle.mig.specs.Normal.{normalised};
 ghost use Rattle.mig.specs.Rules.{walkRefusal, unlessRefused};
-use checks::check_network;
 use crate::value_kind::ValueKind;
+use checks::check_network;
 use mig::Network;
 use mig::Refusal;
 
@@ -21,7 +21,11 @@ fn code_value<V: ValueKind>(values: &[V], code: u8) -> V
     ensures { λ r. ⌜ r ≡ valueAt kind (now (values .entry)) code ⌝ }
 {
     let value = values[(code / 2) as usize];
-    if code % 2 == 1 { value.complement() } else { value }
+    if code % 2 == 1 {
+        value.complement()
+    } else {
+        value
+    }
 }
 
 // Writes the value of each gate behind the values of the first `before` nodes, the constant and the inputs.

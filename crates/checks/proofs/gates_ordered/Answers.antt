@@ -37,8 +37,8 @@ returns-then-not-names-below c =
 pub loop-i-again : need.loop-i-again
 loop-i-again c = (
   ap (λ (m : ℕ). isOrdered m (drop (c .loop-i .i + 1) (take (c .args .network .now .count) (c .args .network .now .gates)))) (sym (add-assoc (c .args .inputs + 1) (c .loop-i .i) 1))
-  ∙ sym (decides (c .args .inputs + 1 + c .loop-i .i) (c .loop-i .i) (c .args .network .now .count) (c .args .network .now .gates) true (c .if-not-names-below .ensures tt) (c .loop-i-test .taken) (omega arith))
-  ∙ c .loop-i .inv .0,
+      ∙ sym (decides (c .args .inputs + 1 + c .loop-i .i) (c .loop-i .i) (c .args .network .now .count) (c .args .network .now .gates) true (c .if-not-names-below .ensures tt) (c .loop-i-test .taken) (omega arith))
+      ∙ c .loop-i .inv .0,
   omega arith,
 )
 

@@ -26,7 +26,7 @@ loop-i-again c =
     let m : greatest (c .loop-i .i + 1) f ≡ max (greatest (c .loop-i .i) f) (f (c .loop-i .i)) = more (c .loop-i .i) f in
     let v : c .loop-i .most ≡ greatest (c .loop-i .i) f = c .loop-i .inv in
     elim (c .if-uses-most .came) [
-      then-uses-most w ↦ omega (arith, m, v, w .most-is, w .if-uses-most .taken, c .fan-out-uses .ensures)
+      | then-uses-most w ↦ omega (arith, m, v, w .most-is, w .if-uses-most .taken, c .fan-out-uses .ensures)
       | else-uses-most w ↦ omega (arith, m, v, w .most-is, w .if-uses-most .left, c .fan-out-uses .ensures)
     ]
 

@@ -15,7 +15,7 @@ loop-i-holds c = (refl, omega arith)
 pub loop-i-again : need.loop-i-again
 loop-i-again c = (
   ap (λ gs. set gs (c .loop-i .i) (getD (c .args .network .now .gates) (c .loop-i .i) emptyGate)) (c .loop-i .inv .0)
-  ∙ clear-more (c .args .network .now .gates) (c .loop-i .i) (omega arith) (omega arith),
+      ∙ clear-more (c .args .network .now .gates) (c .loop-i .i) (omega arith) (omega arith),
   omega arith,
 )
 

@@ -44,7 +44,7 @@ loop-i-again c =
     let s = stage-size n i net (f .2) (omega arith) in
     let g = c .complements .ensures ∙ stage-gate (firstNormalised n i net) (c .loop-i .normal) i (c .loop-i .inv) (omega (arith, c .loop-i-test .taken)) in
     elim (c .if-complements-ge2 .came) [
-      then-complements-ge2 w ↦ w .normal-is ∙ stage-turned n i net (c .loop-i .normal) (w .turned-normal .result) (c .loop-i .inv) (w .turned-normal .ensures) (omega (arith, g, w .if-complements-ge2 .taken))
+      | then-complements-ge2 w ↦ w .normal-is ∙ stage-turned n i net (c .loop-i .normal) (w .turned-normal .result) (c .loop-i .inv) (w .turned-normal .ensures) (omega (arith, g, w .if-complements-ge2 .taken))
       | else-complements-ge2 w ↦ w .normal-is ∙ stage-kept n i net (c .loop-i .normal) (c .loop-i .inv) (omega (arith, g, w .if-complements-ge2 .left))
     ]
 

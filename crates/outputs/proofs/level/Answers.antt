@@ -11,17 +11,14 @@ use Rattle.mig.specs.declared.refusal.Refusal.{Refusal}
 use Rattle.mig.specs.Networks.{netOf, outputValue}
 use Rattle.mig.specs.Questions.{level}
 use Rattle.mig.specs.Rules.{formRefusal, walkRefusal, unlessRefused}
-use Rattle.mig_laws.proofs.Refusals.{passes, form-passes, twelve-places, unless-same, none-from-ok}
+use Rattle.mig_laws.proofs.Refusals.{passes, form-passes, twelve-places, none-from-ok, value-from-ok}
 use Rattle.value_kinds.specs.declared.kinds.Level.{Level}
 use Rattle.value_kinds.specs.Kinds.{cappedLevels, startOf}
-use Rattle.value_kinds.proofs.ByKind.{level-output}
-use Rattle.value_kinds.proofs.outputs.level.Needs as need
+use Rattle.outputs.proofs.ByKind.{level-output}
+use Rattle.outputs.proofs.level.Needs as need
 
 abbrev zero : Level
 zero = record { value = 0 }
-
-given : {X : Type 0} (o : Option Refusal) (x y : X) → Ok y ≡ unlessRefused o x → o ≡ None → y ≡ x
-given o x y h e = let z = rw e at h in cc
 
 pub returns : need.returns
 returns c =
@@ -33,6 +30,6 @@ returns c =
     let v : Ok (c .in-Continue-output .output) ≡ unlessRefused (formRefusal n network) value = w ∙ ap (λ o. unlessRefused o value) (twelve-places n network) in
     let o : formRefusal n network ≡ None = none-from-ok (formRefusal n network) value (c .in-Continue-output .output) v in
     let f = form-passes n network .0 (ap passes o) in
-    let e = given (formRefusal n network) value (c .in-Continue-output .output) v o in
+    let e = value-from-ok (formRefusal n network) value (c .in-Continue-output .output) v in
     let l = level-output n (netOf network) rest (f .0) (omega (arith, f .1, length-take (network .count) (network .gates))) in
     rw o (ap Ok (ap (λ (x : Level). x .value) e ∙ l))

@@ -7,14 +7,14 @@ ghost use Rattle.mig.specs.Tables.{bitAt, tableFrom};
 ghost use Rattle.mig.specs.Questions.{rowBit};
 ghost use Rattle.mig.specs.Questions.{level as levelOf};
 ghost use Rattle.mig.specs.Rules.{formRefusal, unlessRefused};
-use crate::kinds::Column;
-use crate::kinds::ColumnKind;
-use crate::kinds::Level;
-use crate::kinds::LevelKind;
-use crate::kinds::RowBitKind;
-use crate::walks::walk;
 use mig::Network;
 use mig::Refusal;
+use value_kinds::Column;
+use value_kinds::ColumnKind;
+use value_kinds::Level;
+use value_kinds::LevelKind;
+use value_kinds::RowBitKind;
+use value_kinds::walk;
 
 // The bit `i` of a row: the value that the row gives input i + 1.
 fn input_bit(row: u8, i: u8) -> bool
