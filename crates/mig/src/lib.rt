@@ -8,3 +8,6 @@ pub use network::Network;
 pub use question::Limits;
 pub use question::Question;
 pub use refusal::Refusal;
+pub use refusal::RefusalDebug;
+pub use refusal::RefusalEq;
+pub use refusal::RefusalPartialEq;

@@ -5,13 +5,14 @@ ghost use Prim.Native.Nat.{_+_, _/_, _≤_, _<_};
 ghost use lib.ListN.{length, take, drop};
 ghost use Rattle.std.specs.Results.{Cases};
 ghost use Rattle.std.specs.Vec.{made};
-ghost use Rattle.mig.specs.Networks.{netOf, node, valueAt, outputValue, Ordered};
+ghost use Rattle.mig.specs.Networks.{netOf, node, valueAt, gateValue, outputValue, GateBelow, Ordered};
 ghost use Rattle.mig.specs.Networks.{walk as walked};
 ghost use Rattle.value_kinds.specs.Kinds.{startOf};
 ghost use Rattle.mig.specs.Normal.{normalised};
 ghost use Rattle.mig.specs.Rules.{walkRefusal, unlessRefused};
 use crate::value_kind::ValueKind;
 use checks::check_network;
+use mig::Gate;
 use mig::Network;
 use mig::Refusal;
 
@@ -28,6 +29,17 @@ fn code_value<V: ValueKind>(values: &[V], code: u8) -> V
     }
 }
 
+// The value of a gate, of the values of the nodes.
+fn gate_value<V: ValueKind>(values: &[V], gate: Gate) -> V
+    requires { ⌜ GateBelow (length (now values)) gate ⌝ }
+    ensures { λ r. ⌜ r ≡ gateValue kind (now (values .entry)) gate ⌝ }
+{
+    let a = code_value(values, gate.first);
+    let b = code_value(values, gate.second);
+    let c = code_value(values, gate.third);
+    V::majority(a, b, c)
+}
+
 // Writes the value of each gate behind the values of the first `before` nodes, the constant and the inputs.
 fn write_gates<V: ValueKind>(network: &Network, before: usize, values: &mut [V])
     requires few { ⌜ now network .count ≤ 7 ⌝ }
@@ -36,11 +48,7 @@ fn write_gates<V: ValueKind>(network: &Network, before: usize, values: &mut [V])
     ensures { λ _. ⌜ now (values .exit) ≡ walked kind (take before (now (values .entry))) (take (now (network .entry) .count) (now (network .entry) .gates)) ++ drop (before + now (network .entry) .count) (now (values .entry)) ⌝ }
 {
     for i in 0..network.count as usize {
-        let gate = network.gates[i];
-        let a = code_value(values, gate.first);
-        let b = code_value(values, gate.second);
-        let c = code_value(values, gate.third);
-        values[before + i] = V::majority(a, b, c);
+        values[before + i] = gate_value(values, network.gates[i]);
     }
 }
 

@@ -9,20 +9,10 @@ use Rattle.mig.specs.Networks.{emptyGate, walk, gateValue}
 use Rattle.mig_laws.proofs.Steps.{ordered-row, walk-writes}
 use Rattle.value_kinds.proofs.walks.write_gates.Needs as need
 
-pub code-value-a-requires : need.code-value-a-requires
-code-value-a-requires g c κs =
+pub gate-value-requires : need.gate-value-requires
+gate-value-requires g c κs =
     let h = ordered-row (c .args .before) (c .loop-i .i) (c .args .network .now .count) (c .args .network .now .gates) (c .pre .ordered) (c .loop-i-test .taken) (omega arith) in
-    omega (arith, h .0)
-
-pub code-value-b-requires : need.code-value-b-requires
-code-value-b-requires g c κs =
-    let h = ordered-row (c .args .before) (c .loop-i .i) (c .args .network .now .count) (c .args .network .now .gates) (c .pre .ordered) (c .loop-i-test .taken) (omega arith) in
-    omega (arith, h .1)
-
-pub code-value-c-requires : need.code-value-c-requires
-code-value-c-requires g c κs =
-    let h = ordered-row (c .args .before) (c .loop-i .i) (c .args .network .now .count) (c .args .network .now .gates) (c .pre .ordered) (c .loop-i-test .taken) (omega arith) in
-    omega (arith, h .2)
+    (omega (arith, h .0), omega (arith, h .1), omega (arith, h .2))
 
 pub loop-i-holds : need.loop-i-holds
 unfolding walk
@@ -35,10 +25,9 @@ loop-i-again g c =
     let k = g .V·ValueKind .kind in
     let gs = take (c .args .network .now .count) (c .args .network .now .gates) in
     let e : getD gs (c .loop-i .i) emptyGate ≡ getD (c .args .network .now .gates) (c .loop-i .i) emptyGate = getD-take (c .args .network .now .count) (c .args .network .now .gates) (c .loop-i .i) emptyGate (c .loop-i-test .taken) in
-    let v : c .majority .result ≡ gateValue k (c .loop-i .values) (getD (c .args .network .now .gates) (c .loop-i .i) emptyGate) = cc in
-    walk-writes k (c .args .before) (c .loop-i .i) gs (c .args .values .now) (c .loop-i .values) (c .majority .result)
+    walk-writes k (c .args .before) (c .loop-i .i) gs (c .args .values .now) (c .loop-i .values) (c .gate-value .result)
     (c .pre .ordered) (simp length-take (omega arith)) (simp length-take (omega arith)) (c .loop-i .inv)
-    (v ∙ ap (gateValue k (c .loop-i .values)) (sym e))
+    (c .gate-value .ensures ∙ ap (gateValue k (c .loop-i .values)) (sym e))
 
 pub returns : need.returns
 returns g c =
