@@ -17,10 +17,10 @@ use Rattle.mig.specs.declared.network.Network.{Network}
 use Rattle.mig.specs.declared.question.Question.{Question}
 use Rattle.mig.specs.declared.refusal.Refusal.{Refusal}
 use Rattle.mig.specs.declared.refusal.Refusal.the-variants.{WrongTable, LevelAboveLimit, FanOutAboveLimit}
-use Rattle.mig.specs.Networks.{Net, netOf, greatestFanOut}
+use Rattle.mig.specs.Networks.{netOf, greatestFanOut}
 use Rattle.mig.specs.Tables.{tableFrom}
 use Rattle.mig.specs.Questions.{Valid, Meets, IsGreatestFanOut, rowBit, level}
-use Rattle.mig.specs.Rules.{orElse, refuseIf, unlessRefused, inputsRefusal, questionRefusal, formRefusal, unmetRefusal, examineRefusal, examined, isComputed}
+use Rattle.mig.specs.Rules.{orElse, refuseIf, unlessRefused, inputsRefusal, questionRefusal, formRefusal, examineRefusal, examined, isComputed}
 use Rattle.value_kinds.specs.declared.kinds.Column.{Column}
 use Rattle.mig_laws.proofs.Decisions.{column-decides}
 use Rattle.mig_laws.proofs.Refusals.{passes, question-passes, accepted, examine-passes, examined-network, greatest-fan-out, some-from-err, none-from-ok, value-from-ok}

@@ -1,15 +1,12 @@
 -- The known cells and the answers on them.
-use mathlib.Core.List.{List, [], _∷_, _++_}
+use mathlib.Core.List.{[], _∷_}
 use Prim.Native.Nat.{ℕ}
-use lib.ListN.{replicate}
-use Rattle.std.specs.declared.result.Result.{Result}
 use Rattle.std.specs.declared.result.Result.the-variants.{Ok, Err}
 use Rattle.mig.specs.declared.network.Gate.{Gate}
 use Rattle.mig.specs.declared.network.Network.{Network}
 use Rattle.mig.specs.declared.question.Question.{Question}
-use Rattle.mig.specs.declared.refusal.Refusal.{Refusal}
 use Rattle.mig.specs.declared.refusal.Refusal.the-variants.{LevelAboveLimit}
-use Rattle.mig.specs.Networks.{Net, networkOf}
+use Rattle.mig.specs.Networks.{networkOf}
 use Rattle.known_cells.specs.declared.KnownCells.{KnownCells}
 
 abbrev pub question : ℕ → ℕ → ℕ → ℕ → Question

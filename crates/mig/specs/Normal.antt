@@ -1,7 +1,7 @@
 -- The normal form of a network: no gate has more than one complemented fan-in.
 use mathlib.Core.Path.{_≡_}
-use mathlib.Core.Bool.{Bool, cond}
-use mathlib.Core.List.{List, map}
+use mathlib.Core.Bool.{cond}
+use mathlib.Core.List.{map}
 use Prim.Native.Nat.{ℕ, zero, suc, _+_, _-_, _*_, _%_, _≤_, _<_}
 use lib.ListN.{getD, set, replicate}
 use lib.Dec.{eqb, leb}

@@ -1,9 +1,9 @@
 -- Tables, questions, and what it is for a network to meet one.
 use mathlib.Core.Path.{_≡_}
-use mathlib.Core.Bool.{Bool, true, false, cond}
+use mathlib.Core.Bool.{Bool, false}
 use mathlib.Core.List.{List, [], _∷_, _++_}
 use Prim.Native.Nat.{ℕ, zero, suc, _+_, _^_, _≤_, _<_}
-use lib.ListN.{length, getD, replicate}
+use lib.ListN.{replicate}
 use Rattle.mig.specs.declared.question.Limits.{Limits}
 use Rattle.mig.specs.declared.question.Question.{Question}
 use Rattle.mig.specs.Tables.{bitAt}

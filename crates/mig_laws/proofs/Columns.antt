@@ -2,7 +2,7 @@
 use mathlib.Core.Path.{_≡_, refl, sym, ap, ap₂, subst, _∙_}
 use mathlib.Core.Bool.{Bool, true, false, cond, not, _&&_, _||_}
 use mathlib.Core.List.{List, [], _∷_, _++_, map}
-use Prim.Native.Nat.{ℕ, zero, suc, _+_, _-_, _%_, _^_, _≤_, _<_}
+use Prim.Native.Nat.{ℕ, zero, suc, _+_, _-_, _%_, _^_, _<_}
 use native.Mathlib.Nat.{zero-add, zero-div, pow-succ'}
 use native.Mathlib.Omega.{arith}
 use lib.Bits.{bitAnd, bitOr, bitXor, xor-assoc, xor-zero-r, xor-self, xor-lt, or-lt, and-lt}
@@ -10,11 +10,11 @@ use lib.Dec.{eqb}
 use lib.ListN.{length, getD}
 use lib.Pow.{pow-pos}
 use Rattle.std.proofs.shelf.Lists.{map-push}
-use Rattle.mig.specs.Networks.{Net, Kind, Lawful, majority, bits, outputValue}
+use Rattle.mig.specs.Networks.{Net, Lawful, majority, bits, outputValue}
 use Rattle.mig.specs.Tables.{bitAt, tableFrom}
 use Rattle.mig.specs.Columns.{columnOf, inputColumns}
-use Rattle.mig.specs.Questions.{inputBits, rowStart, rowBit}
-use Rattle.mig_laws.proofs.Tables.{bitAt-table, table-bits, table-below, bits-same}
+use Rattle.mig.specs.Questions.{inputBits, rowBit}
+use Rattle.mig_laws.proofs.Tables.{bitAt-table, table-bits, table-below}
 use Rattle.mig_laws.proofs.Bits.{same-bits, bitAt-and, bitAt-or, bitAt-xor}
 use Rattle.mig_laws.proofs.Walks.{Carries, output-carried, getD-snoc, walk-keeps-property}
 

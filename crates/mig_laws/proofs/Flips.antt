@@ -3,12 +3,12 @@ use mathlib.Core.Path.{_≡_, refl, sym, ap, _∙_}
 use mathlib.Core.Bool.{Bool, true, false, cond, not}
 use mathlib.Core.List.{List, [], _∷_, _++_, map}
 use mathlib.Core.Logic.{_⊎_, inl, inr}
-use Prim.Native.Nat.{ℕ, zero, suc, _+_, _-_, _*_, _/_, _%_, _≤_, _<_}
+use Prim.Native.Nat.{ℕ, zero, suc, _+_, _-_, _%_, _≤_, _<_}
 use native.Mathlib.Omega.{arith}
 use lib.ListN.{length, getD}
 use lib.Dec.{eqb}
 use Rattle.std.proofs.shelf.Lists.{length-push}
-use Rattle.std.proofs.shelf.Tests.{eq-eqb, ne-eqb, eqb-true, eqb-false, cond-true, cond-false, cases-bool}
+use Rattle.std.proofs.shelf.Tests.{ne-eqb, eqb-true, cond-true, cond-false, cases-bool}
 use Rattle.mig.specs.declared.network.Gate.{Gate}
 use Rattle.mig.specs.Networks.{Kind, Lawful, node, complemented, valueAt, gateValue, walk}
 use Rattle.mig.specs.Normal.{flip, flipNaming, mapGate, complements}

@@ -1,13 +1,13 @@
 -- No node's level exceeds the number of gates.
-use mathlib.Core.Path.{_≡_, refl, sym, ap, _∙_}
+use mathlib.Core.Path.{refl}
 use mathlib.Core.Bool.{Bool, true, false, cond}
 use mathlib.Core.List.{List, [], _∷_, _++_}
-use Prim.Native.Nat.{ℕ, zero, suc, _+_, _≤_, _<_, max}
+use Prim.Native.Nat.{ℕ, zero, suc, _+_, _≤_}
 use native.Mathlib.Omega.{arith}
 use lib.ListN.{length, getD, replicate}
 use lib.Dec.{eqb}
 use Rattle.mig.specs.declared.network.Gate.{Gate}
-use Rattle.mig.specs.Networks.{Net, size, node, valueAt, gateValue, walk, levels}
+use Rattle.mig.specs.Networks.{Net, size, node, gateValue, walk, levels}
 use Rattle.mig.specs.Questions.{level}
 use Rattle.mig_laws.proofs.Walks.{getD-snoc}
 use Rattle.mig_laws.proofs.Nodes.{level-at}

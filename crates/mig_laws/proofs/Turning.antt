@@ -7,16 +7,16 @@ use Prim.Native.Nat.{ℕ, zero, suc, _+_, _≤_, _<_}
 use native.Mathlib.Omega.{arith}
 use lib.ListN.{length, getD, set, take, drop, replicate}
 use lib.Dec.{eqb, leb}
-use Rattle.std.proofs.shelf.Lists.{append-assoc, map-append, map-set, set-getD, set-at, getD-map, getD-at, getD-append-left, take-append-drop, drop-more, length-take-le, length-append, getD-take}
-use Rattle.std.proofs.shelf.Tests.{ne-eqb, cond-false, cond-true, cases-bool, cases-lt, cases-eq, leb-true, leb-false, lt-leb}
+use Rattle.std.proofs.shelf.Lists.{map-append, map-set, set-getD, set-at, getD-map, getD-at, getD-append-left, take-append-drop, drop-more, length-take-le, getD-take}
+use Rattle.std.proofs.shelf.Tests.{ne-eqb, cond-false, cases-bool, cases-lt, leb-true, leb-false, lt-leb}
 use Rattle.mig.specs.declared.network.Gate.{Gate}
 use Rattle.mig.specs.declared.question.Question.{Question}
 use Rattle.mig.specs.Networks.{Net, size, Kind, Lawful, node, emptyGate, valueAt, gateValue, walk, outputValue, Ordered, Formed, bits, levels}
-use Rattle.mig.specs.Questions.{inputBits, rowStart, rowBit, Meets}
+use Rattle.mig.specs.Questions.{rowStart, rowBit, Meets}
 use Rattle.mig.specs.Normal.{flip, flipNaming, mapGate, complements, gateAt, Normal, turned, gateNormalised, firstNormalised, normalised, SameNodes, SameShape}
 use Rattle.mig_laws.proofs.Walks.{walk-append, length-walk, ordered-left}
 use Rattle.mig_laws.proofs.RowBits.{bits-lawful, length-inputBits}
-use Rattle.mig_laws.proofs.Flips.{node-flip, node-flipNaming, gate-flip, TurnedAt, value-turned, turned-start, walk-turned, complements-flip}
+use Rattle.mig_laws.proofs.Flips.{node-flip, node-flipNaming, gate-flip, value-turned, turned-start, walk-turned, complements-flip}
 use Rattle.mig_laws.proofs.Nodes.{same-size, same-formed, same-levels, same-uses, same-refl, same-trans, level-at}
 
 -- gates that stand before the node m do not name it

@@ -1,7 +1,7 @@
 -- The seven places of a network, written one after another.
 use mathlib.Core.Path.{_≡_, refl, sym, ap, ap₂, _∙_}
 use mathlib.Core.List.{List, [], _∷_, _++_, map}
-use Prim.Native.Nat.{ℕ, zero, suc, _+_, _-_, _≤_, _<_}
+use Prim.Native.Nat.{ℕ, suc, _+_, _-_, _<_}
 use native.Mathlib.Omega.{arith}
 use lib.ListN.{length, getD, set, take, drop, replicate}
 use Rattle.std.proofs.shelf.Lists.{append-assoc, set-at, set-append-left, take-at, drop-at, take-more, drop-more, map-more, length-take-le, length-map, length-set, getD-append-left, getD-take}

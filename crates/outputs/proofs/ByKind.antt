@@ -1,14 +1,14 @@
 -- The walk of each kind, in the words of the definitions.
-use mathlib.Core.Path.{_≡_, refl, sym, ap, _∙_}
-use mathlib.Core.Bool.{Bool, true, false}
-use mathlib.Core.List.{List, [], _∷_, map}
-use Prim.Native.Nat.{ℕ, zero, suc, _+_, _≤_, _<_, min, max}
+use mathlib.Core.Path.{_≡_, refl, ap, _∙_}
+use mathlib.Core.Bool.{Bool}
+use mathlib.Core.List.{List, _∷_, map}
+use Prim.Native.Nat.{ℕ, zero, suc, _+_, _≤_, min, max}
 use native.Mathlib.Omega.{arith}
 use lib.ListN.{take, replicate}
-use Rattle.mig.specs.Networks.{Net, Kind, size, bits, levels, outputValue}
+use Rattle.mig.specs.Networks.{Net, size, bits, levels, outputValue}
 use Rattle.mig.specs.Tables.{bitAt, tableFrom}
 use Rattle.mig.specs.Columns.{columnOf, inputColumns}
-use Rattle.mig.specs.Questions.{inputBits, rowStart, rowBit, level}
+use Rattle.mig.specs.Questions.{inputBits, rowBit, level}
 use Rattle.mig_laws.proofs.Walks.{Carries, output-carried}
 use Rattle.mig_laws.proofs.Columns.{column-table}
 use Rattle.mig_laws.proofs.Levels.{level-bound}

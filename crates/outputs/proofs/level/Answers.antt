@@ -1,15 +1,10 @@
-use mathlib.Core.Path.{_≡_, refl, sym, ap, _∙_}
+use mathlib.Core.Path.{_≡_, ap, _∙_}
 use mathlib.Core.List.{List, [], _∷_}
-use Prim.Native.Nat.{ℕ, _≤_}
 use native.Mathlib.Omega.{arith}
 use lib.ListN.{length-take}
-use Rattle.std.specs.declared.option.Option.{Option}
-use Rattle.std.specs.declared.option.Option.the-variants.{Some, None}
-use Rattle.std.specs.declared.result.Result.{Result}
-use Rattle.std.specs.declared.result.Result.the-variants.{Ok, Err}
-use Rattle.mig.specs.declared.refusal.Refusal.{Refusal}
+use Rattle.std.specs.declared.option.Option.the-variants.{None}
+use Rattle.std.specs.declared.result.Result.the-variants.{Ok}
 use Rattle.mig.specs.Networks.{netOf, outputValue}
-use Rattle.mig.specs.Questions.{level}
 use Rattle.mig.specs.Rules.{formRefusal, walkRefusal, unlessRefused}
 use Rattle.mig_laws.proofs.Refusals.{passes, form-passes, twelve-places, none-from-ok, value-from-ok}
 use Rattle.value_kinds.specs.declared.kinds.Level.{Level}

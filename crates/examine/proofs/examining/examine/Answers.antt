@@ -1,13 +1,11 @@
 use mathlib.Core.Path.{_≡_, sym, ap, _∙_}
-use mathlib.Core.Bool.{Bool, true, false}
-use Prim.Native.Nat.{ℕ, _%_}
+use mathlib.Core.Bool.{true, false}
+use Prim.Native.Nat.{_%_}
 use lib.Dec.{eqb}
 use Rattle.std.specs.declared.option.Option.the-variants.{None}
-use Rattle.std.specs.declared.result.Result.{Result}
-use Rattle.std.specs.declared.result.Result.the-variants.{Ok, Err}
+use Rattle.std.specs.declared.result.Result.the-variants.{Err}
 use Rattle.std.proofs.shelf.Results.{err-from-errBy}
 use Rattle.std.proofs.shelf.Tests.{lt-ltb, le-ltb}
-use Rattle.mig.specs.declared.refusal.Refusal.{Refusal}
 use Rattle.mig.specs.declared.refusal.Refusal.the-variants.{WrongTable, LevelAboveLimit, FanOutAboveLimit}
 use Rattle.mig.specs.Rules.{questionRefusal, examined}
 use Rattle.mig_laws.proofs.Refusals.{none-from-ok}

@@ -1,10 +1,9 @@
 use mathlib.Core.Path.{_≡_, refl, sym, ap, ap₂, _∙_}
-use mathlib.Core.List.{List, _++_}
-use Prim.Native.Nat.{ℕ, _-_, _≤_}
+use mathlib.Core.List.{_++_}
+use Prim.Native.Nat.{ℕ, _-_}
 use native.Mathlib.Omega.{arith}
 use lib.ListN.{length, set, getD, take, replicate}
 use Rattle.std.proofs.shelf.Lists.{length-take-le}
-use Rattle.mig.specs.declared.network.Gate.{Gate}
 use Rattle.mig.specs.Networks.{emptyGate}
 use Rattle.normalise.proofs.Places.{same-network, clear-more}
 use Rattle.normalise.proofs.normal_form.cleared.Needs as need

@@ -1,12 +1,12 @@
-use mathlib.Core.Path.{_≡_, refl, sym, ap, _∙_}
+use mathlib.Core.Path.{_≡_, refl, ap, _∙_}
 use mathlib.Core.Bool.{true}
-use Prim.Native.Nat.{ℕ, _≤_, _<_}
+use Prim.Native.Nat.{ℕ}
 use native.Mathlib.Omega.{arith}
 use Rattle.std.specs.declared.option.Option.the-variants.{None}
 use Rattle.std.specs.declared.result.Result.the-variants.{Ok}
 use Rattle.mig.specs.declared.network.Network.{Network}
-use Rattle.mig.specs.Networks.{netOf, networkOf, size, Formed}
-use Rattle.mig.specs.Normal.{complements, gateAt, firstNormalised, normalised}
+use Rattle.mig.specs.Networks.{netOf, networkOf, size}
+use Rattle.mig.specs.Normal.{complements, firstNormalised, normalised}
 use Rattle.mig.specs.Rules.{formRefusal}
 use Rattle.mig_laws.proofs.Refusals.{none-from-ok}
 use Rattle.normalise.proofs.Told.{stage-size, stage-places, stage-gate, stage-turned, stage-kept, result}

@@ -1,11 +1,10 @@
-use mathlib.Core.Path.{_≡_, refl, sym, ap, ap₂, _∙_}
+use mathlib.Core.Path.{_≡_, refl, ap, ap₂, _∙_}
 use mathlib.Core.List.{List, _++_, map}
-use Prim.Native.Nat.{ℕ, _+_, _≤_}
+use Prim.Native.Nat.{ℕ, _+_}
 use native.Mathlib.Omega.{arith}
-use lib.ListN.{length, set, getD, take, drop}
+use lib.ListN.{set, take, drop}
 use Rattle.mig.specs.declared.network.Gate.{Gate}
-use Rattle.mig.specs.Networks.{emptyGate}
-use Rattle.mig.specs.Normal.{mapGate, flipNaming, flip}
+use Rattle.mig.specs.Normal.{mapGate, flipNaming}
 use Rattle.normalise.proofs.Places.{same-network, change-more, turned-places}
 use Rattle.normalise.proofs.normal_form.turned.Needs as need
 

@@ -1,13 +1,13 @@
-use mathlib.Core.Path.{_≡_, refl, sym, ap, _∙_}
+use mathlib.Core.Path.{_≡_, refl, sym, _∙_}
 use mathlib.Core.Bool.{true}
 use mathlib.Core.List.{_++_}
-use Prim.Native.Nat.{ℕ, _+_, _≤_}
+use Prim.Native.Nat.{_+_, _≤_}
 use native.Mathlib.Omega.{arith}
-use lib.ListN.{length, take, drop, length-take, length-set}
+use lib.ListN.{length, drop, length-take, length-set}
 use Rattle.std.specs.declared.option.Option.the-variants.{None}
 use Rattle.std.proofs.shelf.Tests.{le-ltb}
 use Rattle.mig.specs.Networks.{Lawful, netOf, walk, outputValue}
-use Rattle.mig.specs.Rules.{formRefusal, walkRefusal}
+use Rattle.mig.specs.Rules.{formRefusal}
 use Rattle.mig_laws.proofs.Refusals.{none-from-ok}
 use Rattle.mig_laws.proofs.Turning.{normalised-keeps-value}
 use Rattle.value_kinds.specs.Kinds.{startOf}

@@ -1,9 +1,9 @@
 use mathlib.Core.Path.{_≡_, sym, ap, ap₂, _∙_}
-use mathlib.Core.List.{List, _++_}
-use Prim.Native.Nat.{ℕ, _+_, _<_, _≤_}
+use mathlib.Core.List.{_++_}
+use Prim.Native.Nat.{ℕ, _+_}
 use native.Mathlib.Nat.{add-zero}
 use native.Mathlib.Omega.{arith}
-use lib.ListN.{length, getD, take, drop, length-take}
+use lib.ListN.{getD, take, drop, length-take}
 use Rattle.std.proofs.shelf.Lists.{getD-take, take-all, take-append-drop}
 use Rattle.mig.specs.Networks.{emptyGate, walk, gateValue}
 use Rattle.mig_laws.proofs.Steps.{ordered-row, walk-writes}
