@@ -7,7 +7,6 @@ mod numbers;
 use answers::Answer;
 use answers::AnswerDisplay;
 use answers::UnreadableDisplay;
-use commands::Command;
 use commands::parse;
 use std::env;
 use std::error::AnyError;

@@ -73,7 +73,7 @@ unfolding tableFrom
 all-ones zero t = refl
 all-ones (suc r) t = omega (arith, all-ones r (t + 1), pow-succ' 2 r)
 
-pub bitAt-ones : (r i : ℕ) → i < r → bitAt (2 ^ r - 1) i ≡ true
+bitAt-ones : (r i : ℕ) → i < r → bitAt (2 ^ r - 1) i ≡ true
 bitAt-ones r i h =
     let e : 2 ^ r - 1 ≡ tableFrom r 0 (λ _. true) = omega (arith, all-ones r 0) in
     ap (λ (x : ℕ). bitAt x i) e ∙ bitAt-table r 0 (λ _. true) i h
@@ -82,7 +82,7 @@ bitAt-none : (i : ℕ) → bitAt 0 i ≡ false
 bitAt-none i = ap (λ (x : ℕ). eqb (x % 2) 1) (zero-div (2 ^ i))
 
 -- the bit of a row below r is a value of the bit's kind
-pub row-of-column : (r t : ℕ) → t < r → Carries (columnOf r) bits (λ x. bitAt x t)
+row-of-column : (r t : ℕ) → t < r → Carries (columnOf r) bits (λ x. bitAt x t)
 row-of-column r t h =
     record {
       constant = bitAt-none t;
@@ -91,7 +91,7 @@ row-of-column r t h =
     }
 
 -- bit t of the inputs' columns is what row t gives the inputs
-pub row-of-inputs : (r n t : ℕ) → t < r → map (λ x. bitAt x t) (inputColumns r n) ≡ inputBits n t
+row-of-inputs : (r n t : ℕ) → t < r → map (λ x. bitAt x t) (inputColumns r n) ≡ inputBits n t
 unfolding inputColumns inputBits
 row-of-inputs r zero t h = refl
 row-of-inputs r (suc n) t h =
@@ -99,7 +99,7 @@ row-of-inputs r (suc n) t h =
     ∙ ap₂ (λ (xs : List Bool) (x : Bool). xs ++ x ∷ []) (row-of-inputs r n t h) (bitAt-table r 0 (λ i. bitAt i n) t h ∙ ap (λ (i : ℕ). bitAt i n) (zero-add t))
 
 -- bit t of the output's column is the output's bit in row t
-pub column-agrees : (r n t : ℕ) (net : Net) → t < r → bitAt (outputValue (columnOf r) (0 ∷ inputColumns r n) net) t ≡ rowBit n net t
+column-agrees : (r n t : ℕ) (net : Net) → t < r → bitAt (outputValue (columnOf r) (0 ∷ inputColumns r n) net) t ≡ rowBit n net t
 column-agrees r n t net h =
     sym (output-carried (columnOf r) bits (λ x. bitAt x t) (row-of-column r t h) (0 ∷ inputColumns r n) net)
     ∙ ap (λ vs. outputValue bits vs net) (ap₂ (λ (b : Bool) (bs : List Bool). b ∷ bs) (bitAt-none t) (row-of-inputs r n t h))
@@ -120,7 +120,7 @@ start-below r (suc n) j =
     pick true p q = q
     pick false p q = p
 
-pub column-below : (r n : ℕ) (net : Net) → outputValue (columnOf r) (0 ∷ inputColumns r n) net < 2 ^ r
+column-below : (r n : ℕ) (net : Net) → outputValue (columnOf r) (0 ∷ inputColumns r n) net < 2 ^ r
 column-below r n net =
     walk-keeps-property (columnOf r) (λ x. x < 2 ^ r) (λ x p. xor-lt r x (2 ^ r - 1) p (omega (arith, pow-pos r)))
     (λ x y z p q s. or-lt r (bitAnd x y) (bitAnd z (bitOr x y)) (and-lt r x y p q) (and-lt r z (bitOr x y) s (or-lt r x y p q)))

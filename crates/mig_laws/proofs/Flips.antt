@@ -17,7 +17,7 @@ use Rattle.mig_laws.proofs.Walks.{getD-snoc}
 pub node-flip : (c : ℕ) → node (flip c) ≡ node c
 node-flip c = omega arith
 
-pub complemented-flip : (c : ℕ) → complemented (flip c) ≡ not (complemented c)
+complemented-flip : (c : ℕ) → complemented (flip c) ≡ not (complemented c)
 complemented-flip c = ap (λ (x : ℕ). eqb x 1) (odd c) ∙ other (c % 2) (omega arith)
   where
     odd : (a : ℕ) → flip a % 2 ≡ 1 - a % 2
@@ -36,7 +36,7 @@ node-flipNaming m c = at (eqb (node c) m)
     at false = refl
 
 -- a flipped code stands for the complement
-pub value-flip : {V : Type 0} (k : Kind V) → Lawful k → (vs : List V) (c : ℕ) → valueAt k vs (flip c) ≡ k .complement (valueAt k vs c)
+value-flip : {V : Type 0} (k : Kind V) → Lawful k → (vs : List V) (c : ℕ) → valueAt k vs (flip c) ≡ k .complement (valueAt k vs c)
 value-flip k law vs c = rw (node-flip c, complemented-flip c) (at (complemented c) (getD vs (node c) (k .constant)))
   where
     at : (b : Bool) (v : _) → cond (not b) (k .complement v) v ≡ k .complement (cond b (k .complement v) v)
@@ -80,7 +80,7 @@ value-turned {V} k law m vs ws t c = at (cases-bool (eqb (node c) m))
         ap (valueAt k ws) (cond-false (eqb (node c) m) (flip c) c e)
         ∙ ap (λ (v : V). cond (complemented c) (k .complement v) v) u
 
-pub gate-turned : {V : Type 0} (k : Kind V) → Lawful k → (m : ℕ) (vs ws : List V) → TurnedAt k m vs ws → (g : Gate) → gateValue k ws (mapGate (flipNaming m) g) ≡ gateValue k vs g
+gate-turned : {V : Type 0} (k : Kind V) → Lawful k → (m : ℕ) (vs ws : List V) → TurnedAt k m vs ws → (g : Gate) → gateValue k ws (mapGate (flipNaming m) g) ≡ gateValue k vs g
 gate-turned k law m vs ws t g =
     let x = value-turned k law m vs ws t (g .first) in
     let y = value-turned k law m vs ws t (g .second) in

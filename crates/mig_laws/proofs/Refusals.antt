@@ -26,7 +26,7 @@ use Rattle.mig_laws.proofs.Decisions.{decides-formed, decides-computes, decide
 abbrev pub passes : Option Refusal → Bool
 passes o = not (isSome o)
 
-pub ok-unless : {X : Type 0} (o : Option Refusal) (x : X) → isOk (unlessRefused o x) ≡ passes o
+ok-unless : {X : Type 0} (o : Option Refusal) (x : X) → isOk (unlessRefused o x) ≡ passes o
 ok-unless (Some e) x = refl
 ok-unless None x = refl
 
@@ -84,7 +84,7 @@ question-passes q =
     (passes-both _ _ (passes-if _ _ (decides-leb (q .limits .depth) 7)) (passes-if _ _ (decides-between f)))))
 
 -- a network passes exactly if it has at most seven gates and is well-formed
-pub network-passes : (n : ℕ) (network : Network) → Decides (passes (networkRefusal n network)) ((network .count ≤ 7) × Formed n (netOf network))
+network-passes : (n : ℕ) (network : Network) → Decides (passes (networkRefusal n network)) ((network .count ≤ 7) × Formed n (netOf network))
 network-passes n network =
     let t = leb (network .count) 7 && isFormed n (netOf network) in
     passes-if (not t) _ (decides-at (not (not t)) t (Bool·not-not t) (decides-and _ _ (decides-le (network .count) 7) (decides-formed n (netOf network))))
@@ -96,10 +96,6 @@ pub form-passes : (n : ℕ) (network : Network) → Decides (passes (formRefusal
 form-passes n network =
     decides-like (passes (formRefusal n network)) (λ h. (h .0, h .1 .0, h .1 .1)) (λ h. (h .0, (h .1, h .2)))
     (passes-both _ _ (passes-if _ _ (decides-leb n 4)) (network-passes n network))
-
--- a walk over enough places passes exactly if the network does
-pub walk-passes : (n : ℕ) (network : Network) (places : ℕ) → Decides (passes (walkRefusal n network places)) (((n ≤ 4) × (network .count ≤ 7) × Formed n (netOf network)) × (n + 1 + network .count ≤ places))
-walk-passes n network places = passes-both _ _ (form-passes n network) (passes-if _ _ (decides-leb (n + 1 + network .count) places))
 
 -- twelve places are enough for every network
 pub twelve-places : (n : ℕ) (network : Network) → walkRefusal n network 12 ≡ formRefusal n network
@@ -118,7 +114,7 @@ by-node n k P h j a b =
     subst P e (h (j - (n + 1)) (omega arith))
 
 -- a well-formed network passes exactly if it computes the table within the limits
-pub unmet-passes : (q : Question) (net : Net) → Decides (passes (unmetRefusal q net)) (Computes (q .inputs) (q .table) net × Within (q .inputs) (q .limits) net)
+unmet-passes : (q : Question) (net : Net) → Decides (passes (unmetRefusal q net)) (Computes (q .inputs) (q .table) net × Within (q .inputs) (q .limits) net)
 unmet-passes q net =
     let n = q .inputs in
     let f : ℕ → ℕ = λ i. uses (n + 1 + i) net in

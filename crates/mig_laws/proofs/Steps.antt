@@ -12,7 +12,7 @@ use Rattle.mig.specs.Networks.{Kind, node, complemented, emptyGate, valueAt, ga
 use Rattle.mig_laws.proofs.Walks.{walk-append, length-walk}
 
 -- the gate at place i names nodes below m + i
-pub ordered-at : (m i : ℕ) (gs : List Gate) → Ordered m gs → i < length gs → GateBelow (m + i) (getD gs i emptyGate)
+ordered-at : (m i : ℕ) (gs : List Gate) → Ordered m gs → i < length gs → GateBelow (m + i) (getD gs i emptyGate)
 unfolding Ordered
 ordered-at m i [] h l = absurd (omega arith)
 ordered-at m zero (g ∷ gs) h l = let e : m ≡ m + 0 = omega arith in subst (λ (k : ℕ). GateBelow k g) e (h .0)

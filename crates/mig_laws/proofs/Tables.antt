@@ -9,17 +9,17 @@ use Rattle.std.proofs.shelf.Bits.{mod-low}
 use Rattle.mig.specs.Tables.{bitAt, tableFrom}
 
 -- a bit as a number
-abbrev pub one : Bool → ℕ
+abbrev one : Bool → ℕ
 one b = cond b 1 0
 
-pub one-small : (b : Bool) → one b ≤ 1
+one-small : (b : Bool) → one b ≤ 1
 one-small true = omega arith
 one-small false = omega arith
 
-pub bitAt-zero : (m : ℕ) → bitAt m 0 ≡ eqb (m % 2) 1
+bitAt-zero : (m : ℕ) → bitAt m 0 ≡ eqb (m % 2) 1
 bitAt-zero m = ap (λ (x : ℕ). eqb (x % 2) 1) (div-one m)
 
-pub bitAt-suc : (m i : ℕ) → bitAt m (suc i) ≡ bitAt (m / 2) i
+bitAt-suc : (m i : ℕ) → bitAt m (suc i) ≡ bitAt (m / 2) i
 bitAt-suc m i =
     ap (λ (x : ℕ). eqb (x % 2) 1) (ap (λ (y : ℕ). m / y) (pow-succ' 2 i) ∙ sym (div-div-eq-div-mul m 2 (2 ^ i)))
 

@@ -38,7 +38,7 @@ parts : (gs : List Gate) (i : ℕ) → i < length gs → gs ≡ take i gs ++ get
 parts gs i h = sym (take-append-drop i gs) ∙ ap (λ xs. take i gs ++ xs) (drop-more gs i emptyGate h)
 
 -- the gates of a network of which one gate is turned
-pub turned-gates : (n i : ℕ) (net : Net) → Formed n net → i < size net
+turned-gates : (n i : ℕ) (net : Net) → Formed n net → i < size net
     → turned n i net .gates ≡ take i (net .gates) ++ mapGate flip (gateAt net i) ∷ map (mapGate (flipNaming (n + 1 + i))) (drop (i + 1) (net .gates))
 turned-gates n i net h l =
     let f = mapGate (flipNaming (n + 1 + i)) in
@@ -51,7 +51,7 @@ turned-gates n i net h l =
     ∙ set-at (take i gs) (f g) (map f (drop (i + 1) gs)) (mapGate flip g) i long
 
 -- turning a gate keeps the value of the output, in every lawful kind
-pub turned-keeps-value : {V : Type 0} (k : Kind V) → Lawful k → (n i : ℕ) (net : Net) → Formed n net → i < size net
+turned-keeps-value : {V : Type 0} (k : Kind V) → Lawful k → (n i : ℕ) (net : Net) → Formed n net → i < size net
     → (vs : List V) → length vs ≡ n + 1 → outputValue k vs (turned n i net) ≡ outputValue k vs net
 unfolding walk
 turned-keeps-value k law n i net h l vs long =
@@ -71,7 +71,7 @@ turned-keeps-value k law n i net h l vs long =
     ∙ ap (λ ws. valueAt k ws (net .output)) (sym before)
 
 -- turning a gate leaves the nodes that the codes name
-pub turned-nodes : (n i : ℕ) (net : Net) → i < size net → SameNodes net (turned n i net)
+turned-nodes : (n i : ℕ) (net : Net) → i < size net → SameNodes net (turned n i net)
 turned-nodes n i net l =
     let f = mapGate (flipNaming (n + 1 + i)) in
     record {
@@ -152,10 +152,10 @@ first-normalised n (suc i) net h l =
     (step n i net (firstNormalised n i net) (omega (arith, same-size net (firstNormalised n i net) (s .nodes))) s)
 
 -- the normalised network is well-formed, names the same nodes, and is normal
-pub normalised-formed : (n : ℕ) (net : Net) → Formed n net → Formed n (normalised n net)
+normalised-formed : (n : ℕ) (net : Net) → Formed n net → Formed n (normalised n net)
 normalised-formed n net h = first-normalised n (size net) net h (omega arith) .formed
 
-pub normalised-nodes : (n : ℕ) (net : Net) → Formed n net → SameNodes net (normalised n net)
+normalised-nodes : (n : ℕ) (net : Net) → Formed n net → SameNodes net (normalised n net)
 normalised-nodes n net h = first-normalised n (size net) net h (omega arith) .nodes
 
 pub normalised-normal : (n : ℕ) (net : Net) → Formed n net → Normal (normalised n net)
@@ -182,7 +182,7 @@ pub normalised-keeps-value : {V : Type 0} (k : Kind V) → Lawful k → (n : ℕ
 normalised-keeps-value k law n net h vs long = first-keeps-value k law n (size net) net h (omega arith) vs long
 
 -- a normal network stays as it is
-pub first-normal : (n i : ℕ) (net : Net) → Normal net → i ≤ size net → firstNormalised n i net ≡ net
+first-normal : (n i : ℕ) (net : Net) → Normal net → i ≤ size net → firstNormalised n i net ≡ net
 unfolding firstNormalised
 first-normal n zero net h l = refl
 first-normal n (suc i) net h l =
