@@ -2,7 +2,7 @@
 #[cfg(test)]
 mod tests {
     use examine::examine;
-    use examine::greatest_fan_out;
+    use fan_outs::greatest_fan_out;
     use mig::Gate;
     use mig::Limits;
     use mig::Network;
@@ -14,7 +14,7 @@ mod tests {
     use outputs::row_bit;
     use std::test::*;
     use value_kinds::RowBitKind;
-    use value_kinds::walk;
+    use walk::walk;
 
     const fn gate(first: u8, second: u8, third: u8) -> Gate {
         Gate {

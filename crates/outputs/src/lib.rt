@@ -14,7 +14,7 @@ use value_kinds::ColumnKind;
 use value_kinds::Level;
 use value_kinds::LevelKind;
 use value_kinds::RowBitKind;
-use value_kinds::walk;
+use walk::walk;
 
 // The bit `i` of a row: the value that the row gives input i + 1.
 fn input_bit(row: u8, i: u8) -> bool

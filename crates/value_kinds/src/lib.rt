@@ -1,7 +1,6 @@
-// Value kinds, and the walk over a network in any of them.
+// What a value kind is, and three of them: the bit of one row, the column of sixteen rows, the level.
 mod kinds;
 mod value_kind;
-mod walks;
 
 pub use kinds::Column;
 pub use kinds::ColumnKind;
@@ -9,4 +8,3 @@ pub use kinds::Level;
 pub use kinds::LevelKind;
 pub use kinds::RowBitKind;
 pub use value_kind::ValueKind;
-pub use walks::walk;

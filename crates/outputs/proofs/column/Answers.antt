@@ -13,7 +13,8 @@ use Rattle.mig.specs.Rules.{formRefusal, walkRefusal, unlessRefused}
 use Rattle.mig_laws.proofs.Refusals.{passes, form-passes, twelve-places, unless-same}
 use Rattle.mig_laws.proofs.Tables.{bitAt-table}
 use Rattle.value_kinds.specs.declared.kinds.Column.{Column}
-use Rattle.value_kinds.specs.Kinds.{columns, startOf}
+use Rattle.value_kinds.specs.Kinds.{columns}
+use Rattle.walk.specs.Places.{startOf}
 use Rattle.outputs.proofs.ByKind.{column-output}
 use Rattle.outputs.proofs.column.Needs as need
 

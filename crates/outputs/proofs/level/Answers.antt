@@ -8,7 +8,8 @@ use Rattle.mig.specs.Networks.{netOf, outputValue}
 use Rattle.mig.specs.Rules.{formRefusal, walkRefusal, unlessRefused}
 use Rattle.mig_laws.proofs.Refusals.{passes, form-passes, twelve-places, none-from-ok, value-from-ok}
 use Rattle.value_kinds.specs.declared.kinds.Level.{Level}
-use Rattle.value_kinds.specs.Kinds.{cappedLevels, startOf}
+use Rattle.value_kinds.specs.Kinds.{cappedLevels}
+use Rattle.walk.specs.Places.{startOf}
 use Rattle.outputs.proofs.ByKind.{level-output}
 use Rattle.outputs.proofs.level.Needs as need
 

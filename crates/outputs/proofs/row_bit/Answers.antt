@@ -7,7 +7,7 @@ use Rattle.mig.specs.Tables.{bitAt}
 use Rattle.mig.specs.Questions.{rowBit}
 use Rattle.mig.specs.Rules.{formRefusal, walkRefusal, unlessRefused}
 use Rattle.mig_laws.proofs.Refusals.{passes, form-passes, twelve-places, unless-same}
-use Rattle.value_kinds.specs.Kinds.{startOf}
+use Rattle.walk.specs.Places.{startOf}
 use Rattle.outputs.proofs.ByKind.{row-inputs}
 use Rattle.outputs.proofs.row_bit.Needs as need
 

@@ -7,7 +7,7 @@ use Rattle.std.proofs.shelf.Lists.{take-more, getD-take, take-all}
 use Rattle.mig.specs.declared.network.Gate.{Gate}
 use Rattle.mig.specs.Networks.{emptyGate, names, usesIn}
 use Rattle.mig_laws.proofs.Walks.{usesIn-append}
-use Rattle.examine.proofs.fan_outs.fan_out.Needs as need
+use Rattle.fan_outs.proofs.fan_out.Needs as need
 
 -- the uses by one gate more
 more : (j i k : ℕ) (rows : List Gate) → i < k → k ≤ length rows

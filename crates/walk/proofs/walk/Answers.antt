@@ -10,9 +10,9 @@ use Rattle.mig.specs.Networks.{Lawful, netOf, walk, outputValue}
 use Rattle.mig.specs.Rules.{formRefusal}
 use Rattle.mig_laws.proofs.Refusals.{none-from-ok}
 use Rattle.mig_laws.proofs.Turning.{normalised-keeps-value}
-use Rattle.value_kinds.specs.Kinds.{startOf}
-use Rattle.value_kinds.proofs.Places.{length-start, walked-places, output-read}
-use Rattle.value_kinds.proofs.walks.walk.Needs as need
+use Rattle.walk.specs.Places.{startOf}
+use Rattle.walk.proofs.Places.{length-start, walked-places, output-read}
+use Rattle.walk.proofs.walk.Needs as need
 
 pub write-gates-requires : need.write-gates-requires
 write-gates-requires g c κs =

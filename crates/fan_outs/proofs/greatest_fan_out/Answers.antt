@@ -7,8 +7,8 @@ use Rattle.std.specs.declared.result.Result.the-variants.{Ok}
 use Rattle.mig.specs.Networks.{netOf, uses, size, greatest}
 use Rattle.mig.specs.Rules.{formRefusal}
 use Rattle.mig_laws.proofs.Refusals.{none-from-ok}
-use Rattle.examine.proofs.fan_outs.greatest_fan_out.Needs as need
-use Rattle.examine.proofs.fan_outs.greatest_fan_out.Needs.{then-uses-most, else-uses-most}
+use Rattle.fan_outs.proofs.greatest_fan_out.Needs as need
+use Rattle.fan_outs.proofs.greatest_fan_out.Needs.{then-uses-most, else-uses-most}
 
 pub loop-i-holds : need.loop-i-holds
 unfolding greatest

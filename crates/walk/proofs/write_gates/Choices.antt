@@ -3,7 +3,7 @@ use mathlib.Core.List.{_++_}
 use Prim.Native.Nat.{_+_}
 use lib.ListN.{take, drop}
 use Rattle.mig.specs.Networks.{walk}
-use Rattle.value_kinds.proofs.walks.write_gates.Given as given
+use Rattle.walk.proofs.write_gates.Given as given
 
 -- the first i gates have their values, and what is behind them is as it was
 abbrev pub Inv-loop-i : given.InvT-loop-i

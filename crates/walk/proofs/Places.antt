@@ -9,7 +9,7 @@ use Rattle.std.proofs.shelf.Lists.{drop-set-lt, length-drop, length-take-le}
 use Rattle.mig.specs.Networks.{Net, Kind, size, node, walk, valueAt, outputValue}
 use Rattle.mig_laws.proofs.Walks.{length-walk}
 use Rattle.mig_laws.proofs.Steps.{value-front}
-use Rattle.value_kinds.specs.Kinds.{startOf}
+use Rattle.walk.specs.Places.{startOf}
 
 pub length-start : {V : Type 0} (k : Kind V) (n : ℕ) (places : List V) → n + 1 ≤ length places → length (startOf k n places) ≡ n + 1
 length-start k n places h =

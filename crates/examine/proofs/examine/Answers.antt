@@ -10,8 +10,8 @@ use Rattle.mig.specs.declared.refusal.Refusal.the-variants.{WrongTable, LevelAb
 use Rattle.mig.specs.Rules.{questionRefusal, examined}
 use Rattle.mig_laws.proofs.Refusals.{none-from-ok}
 use Rattle.examine.proofs.Answered.{accepted-when-met, pair-told, malformed, Learnt, learnt, wrong-table, too-deep, shallow}
-use Rattle.examine.proofs.examining.examine.Needs as need
-use Rattle.examine.proofs.examining.examine.Needs.{In-Continue-tables}
+use Rattle.examine.proofs.examine.Needs as need
+use Rattle.examine.proofs.examine.Needs.{In-Continue-tables}
 
 pub returns-in-Break-computed : need.returns-in-Break-computed
 returns-in-Break-computed c =

@@ -1,7 +1,7 @@
 use mathlib.Core.Path.{_≡_}
 use Prim.Native.Nat.{_+_}
 use Rattle.mig.specs.Networks.{netOf, uses, greatest}
-use Rattle.examine.proofs.fan_outs.greatest_fan_out.Given as given
+use Rattle.fan_outs.proofs.greatest_fan_out.Given as given
 
 -- the greatest fan-out of the first i gates
 abbrev pub Inv-loop-i : given.InvT-loop-i

@@ -7,14 +7,14 @@ ghost use Rattle.std.specs.Results.{Cases};
 ghost use Rattle.std.specs.Vec.{made};
 ghost use Rattle.mig.specs.Networks.{netOf, node, valueAt, gateValue, outputValue, GateBelow, Ordered};
 ghost use Rattle.mig.specs.Networks.{walk as walked};
-ghost use Rattle.value_kinds.specs.Kinds.{startOf};
+ghost use Rattle.walk.specs.Places.{startOf};
 ghost use Rattle.mig.specs.Normal.{normalised};
 ghost use Rattle.mig.specs.Rules.{walkRefusal, unlessRefused};
-use crate::value_kind::ValueKind;
 use checks::check_network;
 use mig::Gate;
 use mig::Network;
 use mig::Refusal;
+use value_kinds::ValueKind;
 
 // What a code stands for, of the values of the nodes.
 fn code_value<V: ValueKind>(values: &[V], code: u8) -> V

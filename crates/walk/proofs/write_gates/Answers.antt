@@ -7,7 +7,7 @@ use lib.ListN.{getD, take, drop, length-take}
 use Rattle.std.proofs.shelf.Lists.{getD-take, take-all, take-append-drop}
 use Rattle.mig.specs.Networks.{emptyGate, walk, gateValue}
 use Rattle.mig_laws.proofs.Steps.{ordered-row, walk-writes}
-use Rattle.value_kinds.proofs.walks.write_gates.Needs as need
+use Rattle.walk.proofs.write_gates.Needs as need
 
 pub gate-value-requires : need.gate-value-requires
 gate-value-requires g c κs =
