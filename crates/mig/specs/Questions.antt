@@ -30,6 +30,10 @@ Computes n table net = (t : ℕ) → t < 2 ^ n → rowBit n net t ≡ bitAt tabl
 abbrev pub level : ℕ → Net → ℕ
 level n net = outputValue levels (replicate (n + 1) 0) net
 
+-- the question of n inputs, a table and limits
+abbrev pub questionOf : ℕ → ℕ → Limits → Question
+questionOf n table limits = record { inputs = n; table = table; limits = limits }
+
 -- a question within bounds: up to four inputs, no table bit behind the rows, a depth limit of 0 to 7, a fan-out limit of 1 to 19
 pub record Valid (question : Question) : Type 0 where
   pub inputs : question .inputs ≤ 4

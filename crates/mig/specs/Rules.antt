@@ -31,9 +31,18 @@ abbrev pub unlessRefused : {X : Type 0} → Option Refusal → X → Result X Re
 unlessRefused (Some e) x = Err e
 unlessRefused None x = Ok x
 
+-- the refusal of an answer, if it is one
+abbrev pub refusedBy : {X : Type 0} → Result X Refusal → Option Refusal
+refusedBy (Ok x) = None
+refusedBy (Err e) = Some e
+
 -- more than four inputs
 abbrev pub inputsRefusal : ℕ → Option Refusal
 inputsRefusal n = refuseIf (ltb 4 n) InputsAboveFour
+
+-- what a call with a number of inputs and a table is refused for, in this order
+abbrev pub tableRefusal : ℕ → ℕ → Option Refusal
+tableRefusal n table = orElse (inputsRefusal n) (refuseIf (leb (2 ^ (2 ^ n)) table) TableBitBeyondRows)
 
 -- what any question is refused for, in this order
 abbrev pub questionRefusal : Question → Option Refusal

@@ -19,7 +19,7 @@ use Rattle.mig.specs.declared.refusal.Refusal.{Refusal}
 use Rattle.mig.specs.declared.refusal.Refusal.the-variants.{InputsAboveFour, BufferTooShort}
 use Rattle.mig.specs.Networks.{Net, netOf, size, uses, greatest, greatestFanOut, Formed}
 use Rattle.mig.specs.Questions.{Valid, Within, Meets, IsGreatestFanOut, Computes, level}
-use Rattle.mig.specs.Rules.{refuseIf, orElse, unlessRefused, inputsRefusal, questionRefusal, networkRefusal, formRefusal, walkRefusal, unmetRefusal, examineRefusal, examined, isFormed, isComputed}
+use Rattle.mig.specs.Rules.{refuseIf, orElse, unlessRefused, inputsRefusal, tableRefusal, questionRefusal, networkRefusal, formRefusal, walkRefusal, unmetRefusal, examineRefusal, examined, isFormed, isComputed}
 use Rattle.mig_laws.proofs.Decisions.{decides-formed, decides-computes, decides-leb, decides-greatest, greatest-above, greatest-attained}
 
 -- there is no refusal
@@ -71,6 +71,13 @@ decides-between f = (
   where
     positive : (f ≡ 0 → ⊥) → 1 ≤ f
     positive n = omega arith
+
+-- a table passes exactly if it is one of up to four inputs
+pub inputs-pass : (n : ℕ) → Decides (passes (inputsRefusal n)) (n ≤ 4)
+inputs-pass n = passes-if _ _ (decides-leb n 4)
+
+pub table-passes : (n table : ℕ) → Decides (passes (tableRefusal n table)) ((n ≤ 4) × (table < 2 ^ (2 ^ n)))
+table-passes n table = passes-both _ _ (inputs-pass n) (passes-if _ _ (decides-lt table (2 ^ (2 ^ n))))
 
 -- a question passes exactly if it is within bounds
 pub question-passes : (q : Question) → Decides (passes (questionRefusal q)) (Valid q)

@@ -1,6 +1,6 @@
 -- Tables and their rows, for every number of rows.
 use mathlib.Core.Path.{_≡_, refl, sym, ap, ap₂, _∙_}
-use mathlib.Core.Bool.{Bool, true, false, cond}
+use mathlib.Core.Bool.{Bool, true, false, cond, not}
 use Prim.Native.Nat.{ℕ, zero, suc, _+_, _-_, _*_, _/_, _%_, _^_, _≤_, _<_}
 use native.Mathlib.Nat.{zero-add, pow-succ', div-div-eq-div-mul, div-one, pow-zero, mul-left-comm}
 use native.Mathlib.Omega.{arith}
@@ -9,12 +9,16 @@ use Rattle.std.proofs.shelf.Bits.{mod-low}
 use Rattle.mig.specs.Tables.{bitAt, tableFrom}
 
 -- a bit as a number
-abbrev one : Bool → ℕ
+abbrev pub one : Bool → ℕ
 one b = cond b 1 0
 
-one-small : (b : Bool) → one b ≤ 1
+pub one-small : (b : Bool) → one b ≤ 1
 one-small true = omega arith
 one-small false = omega arith
+
+pub one-back : (b : Bool) → eqb (one b % 2) 1 ≡ b
+one-back true = refl
+one-back false = refl
 
 bitAt-zero : (m : ℕ) → bitAt m 0 ≡ eqb (m % 2) 1
 bitAt-zero m = ap (λ (x : ℕ). eqb (x % 2) 1) (div-one m)
@@ -29,15 +33,11 @@ bitAt-table zero t g i h = absurd (omega arith)
 bitAt-table (suc r) t g zero h =
     bitAt-zero (one (g t) + 2 * tableFrom r (t + 1) g)
     ∙ ap (λ (x : ℕ). eqb x 1) (low (one (g t)) (tableFrom r (t + 1) g))
-    ∙ back (g t)
+    ∙ one-back (g t)
     ∙ ap g (plain t)
   where
     low : (a b : ℕ) → (a + 2 * b) % 2 ≡ a % 2
     low a b = omega arith
-
-    back : (b : Bool) → eqb (one b % 2) 1 ≡ b
-    back true = refl
-    back false = refl
 
     plain : (a : ℕ) → a ≡ a + 0
     plain a = omega arith
@@ -57,6 +57,21 @@ pub table-below : (r t : ℕ) (g : ℕ → Bool) → tableFrom r t g < 2 ^ r
 unfolding tableFrom
 table-below zero t g = omega (arith, pow-zero 2)
 table-below (suc r) t g = omega (arith, pow-succ' 2 r, one-small (g t), table-below r (t + 1) g)
+
+-- two tables with the same rows
+pub table-same : (r t : ℕ) (g h : ℕ → Bool) → ((i : ℕ) → i < r → g (t + i) ≡ h (t + i)) → tableFrom r t g ≡ tableFrom r t h
+unfolding tableFrom
+table-same zero t g h e = refl
+table-same (suc r) t g h e =
+    ap₂ (λ (a : Bool) (b : ℕ). one a + 2 * b)
+    (ap g (plain t) ∙ e 0 (omega arith) ∙ ap h (sym (plain t)))
+    (table-same r (t + 1) g h (λ i l. ap g (moved t i) ∙ e (suc i) (omega arith) ∙ ap h (sym (moved t i))))
+  where
+    plain : (a : ℕ) → a ≡ a + 0
+    plain a = omega arith
+
+    moved : (a b : ℕ) → (a + 1) + b ≡ a + suc b
+    moved a b = omega arith
 
 -- a number below 2^r is the table of its bits
 pub table-bits : (r t f : ℕ) (g : ℕ → Bool) → f < 2 ^ r → ((i : ℕ) → i < r → g (t + i) ≡ bitAt f i) → tableFrom r t g ≡ f
@@ -115,3 +130,13 @@ table-front r s g h =
     ap (λ (k : ℕ). tableFrom k 0 g % 2 ^ s) e
     ∙ ap (λ (x : ℕ). x % 2 ^ s) (table-split s (r - s) 0 g)
     ∙ mod-low (tableFrom (r - s) (0 + s) g) s (tableFrom s 0 g) (table-below s 0 g)
+
+-- complementing each row
+pub table-not : (r t : ℕ) (g : ℕ → Bool) → tableFrom r t (λ i. not (g i)) + tableFrom r t g + 1 ≡ 2 ^ r
+unfolding tableFrom
+table-not zero t g = refl
+table-not (suc r) t g = omega (arith, table-not r (t + 1) g, pow-succ' 2 r, opposite (g t))
+  where
+    opposite : (b : Bool) → one (not b) + one b ≡ 1
+    opposite true = refl
+    opposite false = refl

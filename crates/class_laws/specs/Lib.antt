@@ -1,0 +1,4 @@
+pub mod Renaming
+pub mod Lifting
+pub mod Ways
+pub mod Classes

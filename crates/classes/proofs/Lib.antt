@@ -1,0 +1,3 @@
+mod NoneLower
+mod OldRows
+mod RowsDown
