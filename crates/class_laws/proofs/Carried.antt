@@ -1,7 +1,6 @@
 -- Carrying a table and a network by a way.
-use mathlib.Core.Path.{_≡_, refl, sym, ap, ap₂, subst, _∙_}
-use mathlib.Core.Bool.{Bool, true, false, cond}
-use mathlib.Core.List.{List, [], _∷_}
+use mathlib.Core.Path.{_≡_, refl, sym, ap, ap₂, _∙_}
+use mathlib.Core.Bool.{Bool, true, false}
 use Prim.Native.Nat.{ℕ, zero, suc, _+_, _-_, _*_, _/_, _%_, _^_, _≤_, _<_}
 use native.Mathlib.Nat.{zero-add}
 use native.Mathlib.Omega.{arith}
@@ -9,16 +8,16 @@ use lib.Dec.{T, eqb, leb, ltb, eqb→eq, ltb→lt}
 use lib.ListN.{getD}
 use Rattle.std.proofs.shelf.Tests.{le-leb, lt-leb, eq-eqb, ne-eqb, cond-true, cond-false}
 use Rattle.mig.specs.declared.question.Limits.{Limits}
-use Rattle.mig.specs.Networks.{Net, size, node, complemented, valueAt, bits}
-use Rattle.mig.specs.Tables.{bitAt, tableFrom}
-use Rattle.mig.specs.Questions.{questionOf, inputBits, rowStart, Meets}
-use Rattle.mig_laws.proofs.Tables.{one, one-small, one-back, bitAt-table, table-below, table-same, bits-same}
-use Rattle.class_laws.specs.Renaming.{differ, renameNet}
+use Rattle.mig.specs.Networks.{Net, node, complemented, valueAt, bits}
+use Rattle.mig.specs.Tables.{bitAt}
+use Rattle.mig.specs.Questions.{questionOf, rowStart, Meets}
+use Rattle.mig_laws.proofs.Tables.{one, one-small, one-back, bitAt-table, table-below, bits-same}
+use Rattle.class_laws.specs.Renaming.{differ}
 use Rattle.class_laws.specs.Ways.{inverses, Way, IsWay, source, oldRow, carryTable, carriedCode, carryNet, inverse}
 use Rattle.class_laws.proofs.Renamed.{Renumbering, Correspondence, transfer, getD-inputBits}
 use Rattle.class_laws.proofs.Small.{and, parts, allBelow, below}
 
-pub differ-two : (a b : Bool) → differ a (differ a b) ≡ b
+differ-two : (a b : Bool) → differ a (differ a b) ≡ b
 differ-two true true = refl
 differ-two true false = refl
 differ-two false true = refl
@@ -37,13 +36,13 @@ unfolding order-test
 source-below k a h l =
     ltb→lt (source k a) 4 (parts (ltb (source k a) 4) (eqb (source (getD inverses k 0) (source k a)) a) (order-tested k a h l) .0)
 
-pub source-back : (k a : ℕ) → k < 24 → a < 4 → source (getD inverses k 0) (source k a) ≡ a
+source-back : (k a : ℕ) → k < 24 → a < 4 → source (getD inverses k 0) (source k a) ≡ a
 unfolding order-test
 source-back k a h l =
     eqb→eq (source (getD inverses k 0) (source k a)) a
     (parts (ltb (source k a) 4) (eqb (source (getD inverses k 0) (source k a)) a) (order-tested k a h l) .1)
 
-pub inverses-below : (k : ℕ) → k < 24 → getD inverses k 0 < 24
+inverses-below : (k : ℕ) → k < 24 → getD inverses k 0 < 24
 inverses-below k h = ltb→lt (getD inverses k 0) 24 (below 24 (λ i. ltb (getD inverses i 0) 24) tt k h)
 
 -- the bits of the old row
@@ -66,7 +65,7 @@ carry-bit w f t h =
     bitAt-table 16 0 (λ u. differ (w .flipped) (bitAt f (oldRow (w .order) (w .mask) u))) t h
     ∙ ap (λ (u : ℕ). differ (w .flipped) (bitAt f (oldRow (w .order) (w .mask) u))) (zero-add t)
 
-pub carry-below : (w : Way) (f : ℕ) → carryTable w f < 2 ^ 16
+carry-below : (w : Way) (f : ℕ) → carryTable w f < 2 ^ 16
 carry-below w f = table-below 16 0 (λ u. differ (w .flipped) (bitAt f (oldRow (w .order) (w .mask) u)))
 
 -- the code of an input
@@ -75,7 +74,7 @@ pub carried-low
 unfolding carriedCode
 carried-low k m a h = cond-false (leb 4 a) (2 * (a + 1)) (2 * (source k a + 1) + one (bitAt m a)) (lt-leb 4 a h)
 
-pub carried-high : (k m a : ℕ) → 4 ≤ a → carriedCode k m (suc a) ≡ 2 * (a + 1)
+carried-high : (k m a : ℕ) → 4 ≤ a → carriedCode k m (suc a) ≡ 2 * (a + 1)
 unfolding carriedCode
 carried-high k m a h = cond-true (leb 4 a) (2 * (a + 1)) (2 * (source k a + 1) + one (bitAt m a)) (le-leb 4 a h)
 
@@ -187,4 +186,3 @@ returning w f h l = (
       )
       ∙ differ-two (w .flipped) (bitAt f t)),
 )
-

@@ -1,14 +1,13 @@
 -- A class shares its representative, and whether a network of k gates exists.
 use mathlib.Core.Path.{_≡_, refl, sym, ap, subst, _∙_}
-use mathlib.Core.Logic.{_⊎_, inl, inr, _↔_}
+use mathlib.Core.Logic.{_⊎_, inl, inr}
 use mathlib.Core.Bool.{Bool, true, false, cond}
-use Prim.Native.Nat.{ℕ, zero, suc, _+_, _%_, _^_, _≤_, _<_, min}
+use Prim.Native.Nat.{ℕ, zero, suc, _%_, _^_, _≤_, _<_, min}
 use native.Mathlib.Omega.{arith}
 use Rattle.std.proofs.shelf.Tests.{cases-lt, cases-eq}
 use Rattle.mig.specs.declared.question.Limits.{Limits}
-use Rattle.mig.specs.Networks.{Net, size}
 use Rattle.mig.specs.Tables.{bitAt}
-use Rattle.mig.specs.Questions.{questionOf, Meets}
+use Rattle.mig.specs.Questions.{questionOf}
 use Rattle.mig_laws.proofs.Tables.{table-below}
 use Rattle.class_laws.specs.Lifting.{liftTable, raisedCode, cutCode, raiseNet, cutNet}
 use Rattle.class_laws.specs.Ways.{Way, IsWay, inverse, carryTable, carriedCode, carryNet, Carries, Representative, leastOf, representativeOf}
@@ -19,7 +18,7 @@ use Rattle.class_laws.proofs.Carried.{carrying, returning}
 use Rattle.class_laws.proofs.Composed.{composing}
 
 -- a lifted table has sixteen rows
-pub lifted-below : (n f : ℕ) → liftTable 4 n f < 2 ^ 16
+lifted-below : (n f : ℕ) → liftTable 4 n f < 2 ^ 16
 lifted-below n f = table-below 16 0 (λ t. bitAt f (t % (2 ^ n)))
 
 carried-solvable : (w : Way) (f : ℕ) → IsWay w → (limits : Limits) (k : ℕ) → Solvable (questionOf 4 f limits) k → Solvable (questionOf 4 (carryTable w f) limits) k
@@ -78,11 +77,11 @@ class-representative w f g h l r =
 pub shared-in-class : (n f g : ℕ) → Representative (liftTable 4 n f) g → SharedExactlyInClass n f g
 shared-in-class n f g r m h a = (
   λ s.
-  let (w, hw, e) = r .reached in
-  let (v, hv, d) = s .reached in
-  let back = returning v (liftTable 4 m h) hv (lifted-below m h) in
-  let u = composing w (inverse v) hw (back .0) in
-  (u .0, u .1, sym (u .2 (liftTable 4 n f)) ∙ ap (carryTable (inverse v)) (e ∙ sym d) ∙ back .1),
+      let (w, hw, e) = r .reached in
+      let (v, hv, d) = s .reached in
+      let back = returning v (liftTable 4 m h) hv (lifted-below m h) in
+      let u = composing w (inverse v) hw (back .0) in
+      (u .0, u .1, sym (u .2 (liftTable 4 n f)) ∙ ap (carryTable (inverse v)) (e ∙ sym d) ∙ back .1),
   λ (w, hw, e). subst (λ (x : ℕ). Representative x g) e (class-representative w (liftTable 4 n f) g hw (lifted-below n f) r),
 )
 

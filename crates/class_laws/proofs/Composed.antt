@@ -179,4 +179,3 @@ composing w v h h′ = (
         ∙ differ-assoc (bitAt (w .mask) a) (bitAt (v .mask) (source (w .order) a)) (bitAt t (source k a))
         ∙ ap (λ (x : Bool). differ x (bitAt t (source k a))) (sym (bitAt-table 4 0 masked a b ∙ ap masked (zero-add a)))
         ∙ sym (oldRow-bit k m t a b))
-

@@ -1,7 +1,7 @@
 -- Raising a network to N inputs, and cutting it to fewer.
-use mathlib.Core.Path.{_≡_, refl, sym, ap, subst, _∙_}
-use mathlib.Core.Logic.{_⊎_, inl, inr}
-use mathlib.Core.Bool.{Bool, false, cond}
+use mathlib.Core.Path.{_≡_, refl, sym, ap, _∙_}
+use mathlib.Core.Logic.{inl, inr}
+use mathlib.Core.Bool.{false, cond}
 use Prim.Native.Nat.{ℕ, zero, suc, _+_, _-_, _*_, _/_, _%_, _^_, _≤_, _<_}
 use native.Mathlib.Nat.{zero-add, mod-lt, mod-eq-of-lt, div-eq-of-lt}
 use native.Mathlib.Omega.{arith}
@@ -11,13 +11,13 @@ use lib.Pow.{pow-pos, pow-mono}
 use Rattle.std.proofs.shelf.Bits.{field-of, mod-pow-add}
 use Rattle.std.proofs.shelf.Tests.{le-leb, lt-leb, cases-lt, cond-true, cond-false}
 use Rattle.mig.specs.declared.question.Limits.{Limits}
-use Rattle.mig.specs.Networks.{Net, size, valueAt, bits}
-use Rattle.mig.specs.Tables.{bitAt, tableFrom}
-use Rattle.mig.specs.Questions.{questionOf, inputBits, rowStart, Meets}
+use Rattle.mig.specs.Networks.{Net, valueAt, bits}
+use Rattle.mig.specs.Tables.{bitAt}
+use Rattle.mig.specs.Questions.{questionOf, rowStart, Meets}
 use Rattle.mig_laws.proofs.RowBits.{bits-lawful}
 use Rattle.mig_laws.proofs.Tables.{bitAt-table}
 use Rattle.class_laws.specs.Lifting.{liftTable, raisedCode, raiseNet, cutCode, cutNet}
-use Rattle.class_laws.proofs.Renamed.{Renumbering, Correspondence, transfer, size-rename, value-even, getD-inputBits}
+use Rattle.class_laws.proofs.Renamed.{Correspondence, transfer, value-even, getD-inputBits}
 
 raised-low : (N n j : ℕ) → j ≤ n → raisedCode N n j ≡ 2 * j
 raised-low N n j h = cond-true (leb j n) (2 * j) (2 * (j + (N - n))) (le-leb j n h)
@@ -63,7 +63,7 @@ raise-inputs N n t (suc i) a c =
     getD-inputBits N t i (omega arith) ∙ sym (row-bit n t i (omega arith)) ∙ sym (getD-inputBits n (t % (2 ^ n)) i (omega arith))
 
 -- a question over n inputs, and the lifted one over N
-pub raise-correspondence : (N n f : ℕ) → n ≤ N → Correspondence n N f (liftTable N n f) 0 (raisedCode N n) (λ t. t % (2 ^ n))
+raise-correspondence : (N n f : ℕ) → n ≤ N → Correspondence n N f (liftTable N n f) 0 (raisedCode N n) (λ t. t % (2 ^ n))
 raise-correspondence N n f a =
     record {
       renumbering =
@@ -110,7 +110,7 @@ cut-inputs N n t (suc i) a b c =
     ]
 
 -- a lifted question over N inputs, and the one over n
-pub cut-correspondence : (N n f : ℕ) → n ≤ N → Correspondence N n (liftTable N n f) f 0 (cutCode N n) (λ t. t)
+cut-correspondence : (N n f : ℕ) → n ≤ N → Correspondence N n (liftTable N n f) f 0 (cutCode N n) (λ t. t)
 cut-correspondence N n f a =
     record {
       renumbering =

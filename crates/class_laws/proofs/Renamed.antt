@@ -18,18 +18,15 @@ use Rattle.mig_laws.proofs.RowBits.{bits-lawful, length-inputBits}
 use Rattle.mig_laws.proofs.Walks.{length-walk}
 use Rattle.class_laws.specs.Renaming.{differ, complementBy, rename, renameGate, renameNet}
 
-pub complementBy-node : (b s : ℕ) → complementBy b s / 2 ≡ s / 2
+complementBy-node : (b s : ℕ) → complementBy b s / 2 ≡ s / 2
 complementBy-node b s = omega arith
-
-pub complementBy-mod : (b s : ℕ) → complementBy b s % 2 ≡ (s + b) % 2
-complementBy-mod b s = omega arith
 
 -- how nodes are renumbered: the nodes from m on are the gates, and begin at m′ on the other side
 pub record Renumbering (m m′ : ℕ) (σ : ℕ → ℕ) : Type 0 where
   pub low : (j : ℕ) → j < m → node (σ j) < m′
   pub high : (j : ℕ) → m ≤ j → σ j ≡ 2 * ((j - m) + m′)
 
-pub complemented-by : (b s : ℕ) → complemented (complementBy b s) ≡ differ (complemented b) (complemented s)
+complemented-by : (b s : ℕ) → complemented (complementBy b s) ≡ differ (complemented b) (complemented s)
 complemented-by b s =
     elim (cases-eq (b % 2) 1) [
       | inl p ↦
@@ -258,8 +255,8 @@ level-start m m′ j c h h′ =
     ∙ getD-replicate m′ (node c) 0 0 h′
     ∙ sym (getD-replicate m j 0 0 h)
 
--- the same gates one by one: as many, the same level, and the same fan-out of each gate
-pub renamed-level : (n n′ : ℕ) {σ : ℕ → ℕ} → Renumbering (n + 1) (n′ + 1) σ → (o : ℕ) (net : Net) → Formed n net → level n′ (renameNet σ o net) ≡ level n net
+-- the level is that of the network
+renamed-level : (n n′ : ℕ) {σ : ℕ → ℕ} → Renumbering (n + 1) (n′ + 1) σ → (o : ℕ) (net : Net) → Formed n net → level n′ (renameNet σ o net) ≡ level n net
 renamed-level n n′ {σ} w o net h =
     output-rename levels (λ x. refl) w net o (replicate (n + 1) 0) (replicate (n′ + 1) 0)
     (length-replicate (n + 1) 0)
@@ -272,7 +269,7 @@ renamed-level n n′ {σ} w o net h =
     )
     ∙ stay (complemented o) (level n net)
 
-pub renamed-formed : (n n′ : ℕ) {σ : ℕ → ℕ} → Renumbering (n + 1) (n′ + 1) σ → (o : ℕ) (net : Net) → Formed n net → Formed n′ (renameNet σ o net)
+renamed-formed : (n n′ : ℕ) {σ : ℕ → ℕ} → Renumbering (n + 1) (n′ + 1) σ → (o : ℕ) (net : Net) → Formed n net → Formed n′ (renameNet σ o net)
 renamed-formed n n′ {σ} w o net h =
     let out = net .output in
     record {

@@ -1,5 +1,5 @@
 -- Facts about small numbers, by one test that antt computes.
-use mathlib.Core.Path.{_≡_, refl, subst}
+use mathlib.Core.Path.{_≡_, subst}
 use mathlib.Core.Bool.{Bool, true, false, cond}
 use Prim.Native.Nat.{ℕ, zero, suc, _<_}
 use native.Mathlib.Nat.{not-suc-le-zero}
@@ -29,16 +29,3 @@ below (suc n) p t i h =
       | inl l ↦ below n p (parts (p n) (allBelow n p) t .1) i l
       | inr g ↦ let e : n ≡ i = omega arith in subst (λ (x : ℕ). T (p x)) e (parts (p n) (allBelow n p) t .0)
     ]
-
--- two bits are the same
-abbrev pub same : Bool → Bool → Bool
-same true true = true
-same true false = false
-same false true = false
-same false false = true
-
-pub same-eq : (a b : Bool) → T (same a b) → a ≡ b
-same-eq true true t = refl
-same-eq true false t = absurd t
-same-eq false true t = absurd t
-same-eq false false t = refl

@@ -1,6 +1,6 @@
 -- One more row of a carried table, from the last row down.
-use mathlib.Core.Path.{_≡_, refl, sym, ap, ap₂, subst, _∙_}
-use mathlib.Core.Bool.{Bool, true, false, cond}
+use mathlib.Core.Path.{_≡_, refl, sym, ap, _∙_}
+use mathlib.Core.Bool.{Bool}
 use Prim.Native.Nat.{ℕ, zero, suc, _+_, _-_, _*_, _/_, _%_, _^_, _≤_, _<_}
 use native.Mathlib.Omega.{arith}
 use lib.Dec.{eqb}
@@ -9,13 +9,13 @@ use Rattle.mig.specs.Tables.{bitAt}
 use Rattle.mig.specs.Tables.{tableFrom}
 use Rattle.mig_laws.proofs.Tables.{one, table-below}
 
-pub parity : (a : ℕ) → a ≤ 1 → one (eqb a 1) ≡ a
+parity : (a : ℕ) → a ≤ 1 → one (eqb a 1) ≡ a
 parity zero h = refl
 parity (suc zero) h = refl
 parity (suc (suc a)) h = absurd (omega arith)
 
 -- the rows from t on
-abbrev pub rowsFrom : (ℕ → Bool) → ℕ → ℕ
+abbrev rowsFrom : (ℕ → Bool) → ℕ → ℕ
 rowsFrom g t = tableFrom (16 - t) t g
 
 table-step

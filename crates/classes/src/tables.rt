@@ -5,8 +5,8 @@ ghost use Rattle.class_laws.specs.Ways.{oldRow, carryTable};
 ghost use Rattle.class_laws.specs.Lifting.{liftTable};
 ghost use Rattle.mig.specs.Rules.{unlessRefused, tableRefusal};
 ghost use Rattle.classes.specs.Reach.{plain, wayOf};
-use checks::table_count;
 use crate::way::Way;
+use checks::table_count;
 use mig::Refusal;
 
 // For each permutation and each row, the row that the old table is read at.

@@ -1,6 +1,7 @@
 // The answers and how they are printed.
 use crate::commands::Command;
 use crate::commands::Unreadable;
+use classes::representative;
 use examine::examine;
 use mig::Gate;
 use mig::Network;
@@ -12,6 +13,7 @@ use std::fmt;
 pub(crate) enum Answer {
     Examined(Result<(u8, u8), Refusal>),
     Normalised(Result<Network, Refusal>),
+    Represented(Result<u16, Refusal>),
 }
 
 impl Answer {
@@ -20,6 +22,10 @@ impl Answer {
         match command {
             Command::Examine(question, network) => Answer::Examined(examine(&question, &network)),
             Command::Normalise(inputs, network) => Answer::Normalised(normalise(inputs, &network)),
+            Command::Representative(inputs, table) => Answer::Represented(representative(
+                inputs,
+                table,
+            )),
         }
     }
 }
@@ -87,6 +93,8 @@ pub(crate) impl fmt::Display for Answer as AnswerDisplay {
                 write_network(f, network)
             }
             Answer::Normalised(Err(refusal)) => write_refusal(f, "normalise", refusal),
+            Answer::Represented(Ok(table)) => write!(f, "representative: {table:04x}"),
+            Answer::Represented(Err(refusal)) => write_refusal(f, "representative", refusal),
         }
     }
 }

@@ -11,6 +11,7 @@ use std::str::SplitAsciiWhitespace;
 pub(crate) enum Command {
     Examine(Question, Network),
     Normalise(u8, Network),
+    Representative(u8, u32),
 }
 
 // Why a line cannot be read.
@@ -32,6 +33,10 @@ fn next_number(words: &mut SplitAsciiWhitespace) -> Result<u8, Unreadable> {
     decimal(next_word(words)?).ok_or(Unreadable::NoNumber)
 }
 
+fn next_table(words: &mut SplitAsciiWhitespace) -> Result<u32, Unreadable> {
+    hexadecimal(next_word(words)?).ok_or(Unreadable::NoTable)
+}
+
 fn next_network(words: &mut SplitAsciiWhitespace) -> Result<Network, Unreadable> {
     network(next_word(words)?).ok_or(Unreadable::NoNetwork)
 }
@@ -39,7 +44,7 @@ fn next_network(words: &mut SplitAsciiWhitespace) -> Result<Network, Unreadable>
 // The number of inputs, the table and the two limits.
 fn next_question(words: &mut SplitAsciiWhitespace) -> Result<Question, Unreadable> {
     let inputs = next_number(words)?;
-    let table = hexadecimal(next_word(words)?).ok_or(Unreadable::NoTable)?;
+    let table = next_table(words)?;
     let depth = next_number(words)?;
     let fan_out = next_number(words)?;
     Ok(Question {
@@ -62,6 +67,10 @@ pub(crate) fn parse(line: &str) -> Result<Option<Command>, Unreadable> {
     let command = match name {
         "examine" => Command::Examine(next_question(&mut words)?, next_network(&mut words)?),
         "normalise" => Command::Normalise(next_number(&mut words)?, next_network(&mut words)?),
+        "representative" => Command::Representative(
+            next_number(&mut words)?,
+            next_table(&mut words)?,
+        ),
         _ => return Err(Unreadable::UnknownCommand),
     };
     match words.next() {

@@ -24,7 +24,7 @@ oneGate a b c o = networkOf (record { gates = gate a b c ∷ []; output = o })
 abbrev pub threeGates : Network
 threeGates = networkOf (record { gates = gate 2 4 6 ∷ gate 2 4 7 ∷ gate 9 10 6 ∷ []; output = 12 })
 
--- the answers: level and greatest fan-out, a refusal, a normal form
+-- the answers: level and greatest fan-out, a refusal, a normal form, representatives
 abbrev pub table : KnownCells
 table =
     record {
@@ -33,4 +33,8 @@ table =
       parity = Ok (2, 1);
       «parity_in_one_level» = Err LevelAboveLimit;
       «normal_form» = Ok (oneGate 2 4 7 9);
+      «class_of_constant_0» = Ok 0x0000;
+      «class_of_constant_1» = Ok 0x0000;
+      «class_of_an_input» = Ok 0x00ff;
+      «class_of_majority» = Ok 0x033f;
     }

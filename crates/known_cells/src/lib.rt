@@ -1,6 +1,8 @@
-// Known cells: what `examine` and `normalise` answer on some networks, as one proved table.
+// Known cells: what `examine` and `normalise` answer on some networks, and the representatives of some tables, as one
+// proved table.
 ghost use mathlib.Core.Path.{_≡_};
 ghost use Rattle.known_cells.specs.Table.{table, question, oneGate, threeGates};
+use classes::representative;
 use examine::examine;
 use mig::Gate;
 use mig::Limits;
@@ -17,6 +19,10 @@ pub struct KnownCells {
     pub parity: Result<(u8, u8), Refusal>,
     pub parity_in_one_level: Result<(u8, u8), Refusal>,
     pub normal_form: Result<Network, Refusal>,
+    pub class_of_constant_0: Result<u16, Refusal>,
+    pub class_of_constant_1: Result<u16, Refusal>,
+    pub class_of_an_input: Result<u16, Refusal>,
+    pub class_of_majority: Result<u16, Refusal>,
 }
 
 const EMPTY: Gate = Gate {
@@ -76,7 +82,7 @@ fn three_gates() -> Network
     }
 }
 
-// Examines and normalises the known cells.
+// Examines and normalises the known cells, and takes their representatives.
 pub fn known_cells() -> KnownCells
     ensures { λ r. ⌜ r ≡ table ⌝ }
 {
@@ -86,11 +92,19 @@ pub fn known_cells() -> KnownCells
     let parity = examine(&asked(3, 0x96, 2, 1), &three);
     let parity_in_one_level = examine(&asked(3, 0x96, 1, 1), &three);
     let normal_form = normalise(3, &one_gate(3, 5, 6, 8));
+    let class_of_constant_0 = representative(0, 0x0);
+    let class_of_constant_1 = representative(0, 0x1);
+    let class_of_an_input = representative(1, 0x2);
+    let class_of_majority = representative(3, 0xe8);
     KnownCells {
         majority,
         conjunction,
         parity,
         parity_in_one_level,
         normal_form,
+        class_of_constant_0,
+        class_of_constant_1,
+        class_of_an_input,
+        class_of_majority,
     }
 }

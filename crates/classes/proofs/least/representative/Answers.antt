@@ -1,11 +1,9 @@
 use mathlib.Core.Path.{_≡_, refl, ap, subst}
 use Prim.Native.Nat.{ℕ}
 use Rattle.std.specs.declared.option.Option.the-variants.{None}
-use Rattle.std.specs.declared.result.Result.{Result}
-use Rattle.std.specs.declared.result.Result.the-variants.{Ok, Err}
+use Rattle.std.specs.declared.result.Result.the-variants.{Ok}
 use Rattle.std.proofs.shelf.Results.{err-from-errBy}
-use Rattle.mig.specs.declared.refusal.Refusal.{Refusal}
-use Rattle.mig.specs.Rules.{tableRefusal, unlessRefused}
+use Rattle.mig.specs.Rules.{tableRefusal}
 use Rattle.mig_laws.proofs.Refusals.{passes, table-passes, none-from-ok, value-from-ok, some-from-err}
 use Rattle.class_laws.specs.Lifting.{liftTable}
 use Rattle.class_laws.specs.Ways.{Representative, representativeOf}

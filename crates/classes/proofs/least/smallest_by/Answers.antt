@@ -1,6 +1,5 @@
 use native.Mathlib.Omega.{arith}
 use borrow.Author.Count.{below-more}
-use Prim.Native.Nat.{_<_}
 use Rattle.classes.specs.Reach.{NoneBelowAt}
 use Rattle.classes.proofs.NoneLower.{none-below-less}
 use Rattle.classes.proofs.least.smallest_by.Needs as need

@@ -1,11 +1,11 @@
 use mathlib.Core.Path.{refl}
 use native.Mathlib.Omega.{arith}
-use Prim.Native.Nat.{_-_, _≤_, _<_}
+use Prim.Native.Nat.{_-_, _≤_}
 use Rattle.mig.specs.Tables.{tableFrom}
 use Rattle.class_laws.specs.Ways.{oldRow}
 use Rattle.mig.specs.Tables.{bitAt}
 use Rattle.class_laws.proofs.Carried.{oldRow-below}
-use Rattle.classes.proofs.RowsDown.{rowsFrom, row-more, rows-fit}
+use Rattle.classes.proofs.RowsDown.{row-more, rows-fit}
 use Rattle.classes.proofs.tables.carried.Needs as need
 
 pub loop-t-holds : need.loop-t-holds

@@ -1,10 +1,10 @@
-use mathlib.Core.Path.{_≡_, refl, ap}
+use mathlib.Core.Path.{refl, ap}
 use native.Mathlib.Omega.{arith}
-use Prim.Native.Nat.{ℕ, _-_, _*_, _%_, _^_, _≤_, _<_}
+use Prim.Native.Nat.{ℕ, _-_, _*_, _%_, _^_, _≤_}
 use Rattle.mig.specs.Tables.{bitAt}
 use Rattle.mig.specs.Tables.{tableFrom}
 use Rattle.std.proofs.shelf.Bits.{one-shl}
-use Rattle.classes.proofs.RowsDown.{rowsFrom, row-more, rows-fit}
+use Rattle.classes.proofs.RowsDown.{row-more, rows-fit}
 use Rattle.classes.proofs.tables.lifted.Needs as need
 
 pub loop-t-holds : need.loop-t-holds

@@ -1,13 +1,16 @@
 #!/usr/bin/env python3
-"""An independent model of the program's commands on networks, and comparisons with it.
+"""An independent model of the program's commands, and comparisons with it.
 
-  network_model.py --write          writes the stored commands and answers of crates/kegbirun from the model
-  network_model.py --check          compares the stored answers with the model's
-  network_model.py --random N SEED  runs the built program on N random commands and compares each answer
+  command_model.py --write          writes the stored commands and answers of crates/kegbirun from the model
+  command_model.py --check          compares the stored answers with the model's
+  command_model.py --random N SEED  runs the built program on N random commands and compares each answer
 
 The model is written from the rules in docs/ alone: it evaluates a network by recursion, one row at a time, and
-counts uses over the flat list of codes.
+counts uses over the flat list of codes. The representative of a table is the least over all permutations of the inputs,
+all complemented inputs and both outputs, each carried row by row.
 """
+import functools
+import itertools
 import os
 import random
 import re
@@ -79,10 +82,7 @@ def check_form(n, gates, output):
 
 
 def examine(n, table, depth, fan_out, gates, output):
-    if n > 4:
-        raise Refused(1)
-    if any(table >> bit & 1 for bit in range(2**n, max(2**n, table.bit_length()))):
-        raise Refused(2)
+    check_table(n, table)
     if depth > 7:
         raise Refused(3)
     if not 1 <= fan_out <= 19:
@@ -115,6 +115,31 @@ def normalise(n, gates, output):
     return network_word(codes, output)
 
 
+def check_table(n, table):
+    """Refusals 1 and 2."""
+    if n > 4:
+        raise Refused(1)
+    if any(table >> bit & 1 for bit in range(2**n, max(2**n, table.bit_length()))):
+        raise Refused(2)
+
+
+@functools.lru_cache(maxsize=None)
+def row_maps():
+    """For each permutation and each set of complemented inputs, the row that each row is read at."""
+    maps = []
+    for order in itertools.permutations(range(4)):
+        for mask in range(16):
+            maps.append([sum(((row >> order[i] & 1) ^ (mask >> i & 1)) << i for i in range(4)) for row in range(16)])
+    return maps
+
+
+def representative(n, table):
+    check_table(n, table)
+    rows = [table >> (row % 2**n) & 1 for row in range(16)]
+    carried = [sum(rows[old] << row for row, old in enumerate(rows_read)) for rows_read in row_maps()]
+    return f"{min(min(carried), 0xffff - max(carried)):04x}"
+
+
 def network_word(gates, output):
     return ",".join(".".join(str(code) for code in gate) for gate in gates) + f":{output}"
 
@@ -144,6 +169,7 @@ def read_network(word):
 READERS = {
     "examine": [read_number, read_table, read_number, read_number, read_network],
     "normalise": [read_number, read_network],
+    "representative": [read_number, read_table],
 }
 
 
@@ -169,6 +195,8 @@ def answer(line, number):
         if words[0] == "examine":
             n, table, depth, fan_out, (gates, output) = values
             return "examine: " + examine(n, table, depth, fan_out, gates, output)
+        if words[0] == "representative":
+            return "representative: " + representative(*values)
         n, (gates, output) = values
         return "normalise: " + normalise(n, gates, output)
     except Refused as refusal:
@@ -194,6 +222,8 @@ def random_command(rng):
     n = rng.choice([0, 1, 2, 3, 3, 4, 4, 4, 5]) if rng.random() < 0.1 else rng.randrange(5)
     k = rng.choice([0, 1, 2, 3, 4, 5, 6, 7, 7, 8])
     gates, output = random_gates(rng, n, k)
+    if rng.random() < 0.1:
+        return f"representative {n} {rng.randrange(2 ** 2 ** min(n, 4) + 1):x}"
     if rng.random() < 0.3:
         return f"normalise {n} {network_word(gates, output)}"
     try:
@@ -269,7 +299,24 @@ examine 4 ff 7 1 9.9.99:99
 examine 4 ff 0 1 0.1.2,10.10.10:12
 examine 4 aaaa 0 1 0.1.2,10.10.10:12
 examine 4 aaaa 2 1 0.1.2,10.10.10:12
+# representatives: constants, inputs, the majority and the parity of three inputs, and tables at the edge
+representative 0 0
+representative 0 1
+representative 0 2
+representative 1 2
+representative 2 a
+representative 4 ff00
+representative 3 e8
+representative 4 E8E8
+representative 3 96
+representative 3 100
+representative 4 ffff
+representative 4 10000
+representative 5 0
 # lines that cannot be read
+representative 3
+representative 3 e8 e8
+representative 3 x
 exam 3 e8 1 1 2.4.6:8
 Examine 3 e8 1 1 2.4.6:8
 examine
