@@ -1,6 +1,6 @@
 -- Carrying a table and a network by a way.
 use mathlib.Core.Path.{_≡_, refl, sym, ap, ap₂, _∙_}
-use mathlib.Core.Bool.{Bool, true, false}
+use mathlib.Core.Bool.{Bool, true, false, _&&_}
 use Prim.Native.Nat.{ℕ, zero, suc, _+_, _-_, _*_, _/_, _%_, _^_, _≤_, _<_}
 use native.Mathlib.Nat.{zero-add}
 use native.Mathlib.Omega.{arith}
@@ -15,7 +15,8 @@ use Rattle.mig_laws.proofs.Tables.{one, one-small, one-back, bitAt-table, table
 use Rattle.class_laws.specs.Renaming.{differ}
 use Rattle.class_laws.specs.Ways.{inverses, Way, IsWay, source, oldRow, carryTable, carriedCode, carryNet, inverse}
 use Rattle.class_laws.proofs.Renamed.{Renumbering, Correspondence, transfer, getD-inputBits}
-use Rattle.class_laws.proofs.Small.{and, parts, allBelow, below}
+use Rattle.class_laws.proofs.Small.{parts, below}
+use Rattle.mig.specs.Rules.{allBelow}
 
 differ-two : (a b : Bool) → differ a (differ a b) ≡ b
 differ-two true true = refl
@@ -25,10 +26,10 @@ differ-two false false = refl
 
 -- what the two tables of permutations say, tested at each
 order-test : ℕ → ℕ → Bool
-order-test k a = and (ltb (source k a) 4) (eqb (source (getD inverses k 0) (source k a)) a)
+order-test k a = (ltb (source k a) 4) && (eqb (source (getD inverses k 0) (source k a)) a)
 
 order-tested : (k a : ℕ) → k < 24 → a < 4 → T (order-test k a)
-unfolding order-test
+unfolding order-test allBelow
 order-tested k a h l = below 4 (order-test k) (below 24 (λ i. allBelow 4 (order-test i)) tt k h) a l
 
 pub source-below : (k a : ℕ) → k < 24 → a < 4 → source k a < 4
@@ -43,6 +44,7 @@ source-back k a h l =
     (parts (ltb (source k a) 4) (eqb (source (getD inverses k 0) (source k a)) a) (order-tested k a h l) .1)
 
 inverses-below : (k : ℕ) → k < 24 → getD inverses k 0 < 24
+unfolding allBelow
 inverses-below k h = ltb→lt (getD inverses k 0) 24 (below 24 (λ i. ltb (getD inverses i 0) 24) tt k h)
 
 -- the bits of the old row

@@ -1,6 +1,6 @@
 -- A way after a way is a way, and every permutation is listed.
 use mathlib.Core.Path.{_≡_, refl, sym, ap, ap₂, _∙_}
-use mathlib.Core.Bool.{Bool, true, false, cond}
+use mathlib.Core.Bool.{Bool, true, false, cond, _&&_}
 use mathlib.Core.List.{List, [], _∷_}
 use Prim.Native.Nat.{ℕ, zero, suc, _+_, _-_, _*_, _<_}
 use native.Mathlib.Nat.{zero-add}
@@ -13,7 +13,8 @@ use Rattle.mig_laws.proofs.Tables.{one, bitAt-table, table-below, table-same, b
 use Rattle.class_laws.specs.Renaming.{differ}
 use Rattle.class_laws.specs.Ways.{orders, Way, IsWay, Apart, AllPermutations, source, oldRow, carryTable}
 use Rattle.class_laws.proofs.Carried.{source-below, oldRow-bit, oldRow-below, carry-bit}
-use Rattle.class_laws.proofs.Small.{and, parts, allBelow, below}
+use Rattle.class_laws.proofs.Small.{parts, below}
+use Rattle.mig.specs.Rules.{allBelow}
 
 -- the place of a permutation in `orders`, by how many of the smaller numbers are still left at each of its steps
 placeOf : ℕ → ℕ → ℕ → ℕ
@@ -23,7 +24,7 @@ equal : List ℕ → List ℕ → Bool
 equal [] [] = true
 equal [] (y ∷ ys) = false
 equal (x ∷ xs) [] = false
-equal (x ∷ xs) (y ∷ ys) = and (eqb x y) (equal xs ys)
+equal (x ∷ xs) (y ∷ ys) = eqb x y && equal xs ys
 
 equal-eq : (xs ys : List ℕ) → T (equal xs ys) → xs ≡ ys
 unfolding equal
@@ -43,14 +44,14 @@ unless-not true c e t = absurd (both-ways true e refl)
 unless-not false c e t = t
 
 found : ℕ → ℕ → ℕ → ℕ → Bool
-found x y z u = and (ltb (placeOf x y z) 24) (equal (getD orders (placeOf x y z) []) (x ∷ y ∷ z ∷ u ∷ []))
+found x y z u = ltb (placeOf x y z) 24 && equal (getD orders (placeOf x y z) []) (x ∷ y ∷ z ∷ u ∷ [])
 
 place-test : ℕ → ℕ → ℕ → ℕ → Bool
 place-test x y z u =
     unless (eqb x y) (unless (eqb x z) (unless (eqb x u) (unless (eqb y z) (unless (eqb y u) (unless (eqb z u) (found x y z u))))))
 
 place-tested : (x y z u : ℕ) → x < 4 → y < 4 → z < 4 → u < 4 → T (place-test x y z u)
-unfolding place-test found unless equal placeOf
+unfolding place-test found unless equal placeOf allBelow
 place-tested x y z u a b c d =
     below 4 (place-test x y z)
     (below 4 (λ k. allBelow 4 (place-test x y k))
@@ -86,7 +87,7 @@ after-test : ℕ → ℕ → Bool
 after-test i j = found (after i j 0) (after i j 1) (after i j 2) (after i j 3)
 
 after-tested : (i j : ℕ) → i < 24 → j < 24 → T (after-test i j)
-unfolding after-test after found equal placeOf
+unfolding after-test after found equal placeOf allBelow
 after-tested i j a b = below 24 (after-test i) (below 24 (λ k. allBelow 24 (after-test k)) tt i a) j b
 
 after-found : (i j : ℕ) → i < 24 → j < 24 → (k : ℕ) × (k < 24) × ((a : ℕ) → a < 4 → source k a ≡ source j (source i a))
@@ -112,7 +113,7 @@ after-found i j h h′ =
     e : Bool
     e = equal (getD orders (placeOf x y z) []) (x ∷ y ∷ z ∷ u ∷ [])
 
-    t : T (and l e)
+    t : T (l && e)
     t = after-tested i j h h′
 
     list : getD orders (placeOf x y z) [] ≡ x ∷ y ∷ z ∷ u ∷ []

@@ -8,7 +8,8 @@ use lib.Dec.{eqb, eqb→eq}
 use lib.ListN.{getD}
 use Rattle.mig.specs.Tables.{tableFrom}
 use Rattle.class_laws.specs.Ways.{oldRow}
-use Rattle.class_laws.proofs.Small.{allBelow, below}
+use Rattle.class_laws.proofs.Small.{below}
+use Rattle.mig.specs.Rules.{allBelow}
 
 abbrev pub rows : List (List ℕ)
 rows =
@@ -42,7 +43,7 @@ row-test : ℕ → ℕ → ℕ → Bool
 row-test k m t = eqb (bitXor (getD (getD rows k []) t 0) m) (oldRow k m t)
 
 pub row-is : (k m t : ℕ) → k < 24 → m < 16 → t < 16 → bitXor (getD (getD rows k []) t 0) m ≡ oldRow k m t
-unfolding row-test oldRow tableFrom
+unfolding row-test oldRow tableFrom allBelow
 row-is k m t a b c =
     eqb→eq (bitXor (getD (getD rows k []) t 0) m) (oldRow k m t)
     (below 16 (row-test k m)

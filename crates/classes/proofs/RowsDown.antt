@@ -1,18 +1,12 @@
 -- One more row of a carried table, from the last row down.
-use mathlib.Core.Path.{_≡_, refl, sym, ap, _∙_}
+use mathlib.Core.Path.{_≡_, sym, ap, _∙_}
 use mathlib.Core.Bool.{Bool}
-use Prim.Native.Nat.{ℕ, zero, suc, _+_, _-_, _*_, _/_, _%_, _^_, _≤_, _<_}
+use Prim.Native.Nat.{ℕ, suc, _+_, _-_, _*_, _/_, _%_, _^_, _≤_, _<_}
 use native.Mathlib.Omega.{arith}
-use lib.Dec.{eqb}
 use lib.Pow.{pow-mono}
 use Rattle.mig.specs.Tables.{bitAt}
 use Rattle.mig.specs.Tables.{tableFrom}
-use Rattle.mig_laws.proofs.Tables.{one, table-below}
-
-parity : (a : ℕ) → a ≤ 1 → one (eqb a 1) ≡ a
-parity zero h = refl
-parity (suc zero) h = refl
-parity (suc (suc a)) h = absurd (omega arith)
+use Rattle.mig_laws.proofs.Tables.{one, parity, table-below}
 
 -- the rows from t on
 abbrev rowsFrom : (ℕ → Bool) → ℕ → ℕ

@@ -8,6 +8,13 @@ use lib.Dec.{eqb}
 use Rattle.std.proofs.shelf.Bits.{mod-low}
 use Rattle.mig.specs.Tables.{bitAt, tableFrom}
 
+-- the row t, and the rows behind it
+plain : (t : ℕ) → t ≡ t + 0
+plain t = omega arith
+
+moved : (t i : ℕ) → (t + 1) + i ≡ t + suc i
+moved t i = omega arith
+
 -- a bit as a number
 abbrev pub one : Bool → ℕ
 one b = cond b 1 0
@@ -19,6 +26,11 @@ one-small false = omega arith
 pub one-back : (b : Bool) → eqb (one b % 2) 1 ≡ b
 one-back true = refl
 one-back false = refl
+
+pub parity : (a : ℕ) → a ≤ 1 → one (eqb a 1) ≡ a
+parity zero h = refl
+parity (suc zero) h = refl
+parity (suc (suc a)) h = absurd (omega arith)
 
 bitAt-zero : (m : ℕ) → bitAt m 0 ≡ eqb (m % 2) 1
 bitAt-zero m = ap (λ (x : ℕ). eqb (x % 2) 1) (div-one m)
@@ -38,9 +50,6 @@ bitAt-table (suc r) t g zero h =
   where
     low : (a b : ℕ) → (a + 2 * b) % 2 ≡ a % 2
     low a b = omega arith
-
-    plain : (a : ℕ) → a ≡ a + 0
-    plain a = omega arith
 bitAt-table (suc r) t g (suc i) h =
     bitAt-suc (one (g t) + 2 * tableFrom r (t + 1) g) i
     ∙ ap (λ (x : ℕ). bitAt x i) (high (one (g t)) (tableFrom r (t + 1) g) (one-small (g t)))
@@ -49,9 +58,6 @@ bitAt-table (suc r) t g (suc i) h =
   where
     high : (a b : ℕ) → a ≤ 1 → (a + 2 * b) / 2 ≡ b
     high a b l = omega arith
-
-    moved : (a b : ℕ) → (a + 1) + b ≡ a + suc b
-    moved a b = omega arith
 
 pub table-below : (r t : ℕ) (g : ℕ → Bool) → tableFrom r t g < 2 ^ r
 unfolding tableFrom
@@ -66,12 +72,6 @@ table-same (suc r) t g h e =
     ap₂ (λ (a : Bool) (b : ℕ). one a + 2 * b)
     (ap g (plain t) ∙ e 0 (omega arith) ∙ ap h (sym (plain t)))
     (table-same r (t + 1) g h (λ i l. ap g (moved t i) ∙ e (suc i) (omega arith) ∙ ap h (sym (moved t i))))
-  where
-    plain : (a : ℕ) → a ≡ a + 0
-    plain a = omega arith
-
-    moved : (a b : ℕ) → (a + 1) + b ≡ a + suc b
-    moved a b = omega arith
 
 -- a number below 2^r is the table of its bits
 pub table-bits : (r t f : ℕ) (g : ℕ → Bool) → f < 2 ^ r → ((i : ℕ) → i < r → g (t + i) ≡ bitAt f i) → tableFrom r t g ≡ f
@@ -83,17 +83,6 @@ table-bits (suc r) t f g l e =
     table-bits r (t + 1) (f / 2) g (omega (arith, pow-succ' 2 r)) (λ i b. ap g (moved t i) ∙ e (suc i) (omega arith) ∙ bitAt-suc f i) in
     ap₂ (λ (a : Bool) (b : ℕ). one a + 2 * b) d q ∙ halves f
   where
-    plain : (a : ℕ) → a ≡ a + 0
-    plain a = omega arith
-
-    moved : (a b : ℕ) → (a + 1) + b ≡ a + suc b
-    moved a b = omega arith
-
-    parity : (a : ℕ) → a ≤ 1 → one (eqb a 1) ≡ a
-    parity zero h = refl
-    parity (suc zero) h = refl
-    parity (suc (suc a)) h = absurd (omega arith)
-
     halves : (a : ℕ) → one (eqb (a % 2) 1) + 2 * (a / 2) ≡ a
     halves a = omega (arith, parity (a % 2) (omega arith))
 
