@@ -4,8 +4,7 @@ use mathlib.Core.Bool.{Bool}
 use Prim.Native.Nat.{ℕ, suc, _+_, _-_, _*_, _/_, _%_, _^_, _≤_, _<_}
 use native.Mathlib.Omega.{arith}
 use lib.Pow.{pow-mono}
-use Rattle.mig.specs.Tables.{bitAt}
-use Rattle.mig.specs.Tables.{tableFrom}
+use Rattle.mig.specs.Tables.{bitAt, tableFrom}
 use Rattle.mig_laws.proofs.Tables.{one, parity, table-below}
 
 -- the rows from t on

@@ -48,7 +48,7 @@ some-from-err (Some d) x e h = cc
 some-from-err None x e h = absurd (false≢true (ap isOk h))
 
 -- two answers that are equal where none is refused
-pub unless-same : {X : Type 0} (o : Option Refusal) (x y : X) → (o ≡ None → x ≡ y) → unlessRefused o x ≡ unlessRefused o y
+unless-same : {X : Type 0} (o : Option Refusal) (x y : X) → (o ≡ None → x ≡ y) → unlessRefused o x ≡ unlessRefused o y
 unless-same (Some e) x y h = refl
 unless-same None x y h = ap Ok (h refl)
 
@@ -105,7 +105,7 @@ form-passes n network =
     (passes-both _ _ (passes-if _ _ (decides-leb n 4)) (network-passes n network))
 
 -- twelve places are enough for every network
-pub twelve-places : (n : ℕ) (network : Network) → walkRefusal n network 12 ≡ formRefusal n network
+twelve-places : (n : ℕ) (network : Network) → walkRefusal n network 12 ≡ formRefusal n network
 twelve-places n network = at (formRefusal n network) refl
   where
     at : (o : Option Refusal) → formRefusal n network ≡ o → orElse o (refuseIf (ltb 12 (n + 1 + network .count)) BufferTooShort) ≡ o
@@ -113,6 +113,13 @@ twelve-places n network = at (formRefusal n network) refl
     at None h =
         let f = form-passes n network .0 (ap passes h) in
         rw (le-ltb 12 (n + 1 + network .count) (omega (arith, f .0, f .1)))
+
+-- the answer of a walk over twelve places, where its value is y for up to four inputs
+pub answer-of-walk : {X : Type 0} (n : ℕ) (network : Network) (r : Result X Refusal) (x y : X) → r ≡ unlessRefused (walkRefusal n network 12) x → (n ≤ 4 → network .count ≤ 7 → x ≡ y)
+    → r ≡ unlessRefused (formRefusal n network) y
+answer-of-walk n network r x y h e =
+    h ∙ ap (λ o. unlessRefused o x) (twelve-places n network)
+    ∙ unless-same (formRefusal n network) x y (λ o. let f = form-passes n network .0 (ap passes o) in e (f .0) (f .1))
 
 -- a gate by its node, and by its place
 by-node : (n k : ℕ) (P : ℕ → Type 0) → ((i : ℕ) → i < k → P (n + 1 + i)) → (j : ℕ) → n < j → j < n + 1 + k → P j

@@ -1,6 +1,8 @@
+use mathlib.Core.Path.{_≡_, ap, _∙_}
 use Prim.Native.Nat.{ℕ, _*_, _%_, _^_, _≤_}
 use native.Mathlib.Omega.{arith}
 use lib.Pow.{pow-mono}
+use Rattle.std.specs.declared.result.Result.the-variants.{Ok}
 use Rattle.std.proofs.shelf.Bits.{one-shl}
 use Rattle.std.proofs.shelf.Tests.{le-ltb}
 use Rattle.checks.proofs.table_count.Needs as need
@@ -14,5 +16,8 @@ shl-result c = omega (arith, few (c .args .inputs) (c .if-inputs-gt4 .left))
 
 pub returns : need.returns
 returns c =
-    let f = few (c .args .inputs) (c .if-inputs-gt4 .left) in
-    rw (le-ltb 4 (c .args .inputs) (c .if-inputs-gt4 .left), one-shl ((1 * 2 ^ (c .args .inputs)) % 4294967296) 32 (omega arith), one-shl (c .args .inputs) 32 (omega arith))
+    let n = c .args .inputs in
+    let f = few n (c .if-inputs-gt4 .left) in
+    let e : (1 * 2 ^ ((1 * 2 ^ n) % 4294967296)) % 4294967296 ≡ 2 ^ (2 ^ n) =
+    one-shl ((1 * 2 ^ n) % 4294967296) 32 (omega arith) ∙ ap (λ (m : ℕ). 2 ^ m) (one-shl n 32 (omega arith)) in
+    rw (le-ltb 4 n (c .if-inputs-gt4 .left)) (ap Ok e)

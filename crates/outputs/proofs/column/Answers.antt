@@ -9,8 +9,8 @@ use Rattle.mig.specs.declared.refusal.Refusal.{Refusal}
 use Rattle.mig.specs.Networks.{Net, netOf, outputValue}
 use Rattle.mig.specs.Tables.{bitAt, tableFrom}
 use Rattle.mig.specs.Questions.{rowBit}
-use Rattle.mig.specs.Rules.{formRefusal, walkRefusal, unlessRefused}
-use Rattle.mig_laws.proofs.Refusals.{passes, form-passes, twelve-places, unless-same}
+use Rattle.mig.specs.Rules.{formRefusal, unlessRefused}
+use Rattle.mig_laws.proofs.Refusals.{answer-of-walk}
 use Rattle.mig_laws.proofs.Tables.{bitAt-table}
 use Rattle.value_kinds.specs.declared.kinds.Column.{Column}
 use Rattle.value_kinds.specs.Kinds.{columns}
@@ -31,11 +31,9 @@ returns c =
     let network = c .args .network .now in
     let rest : List Column = column 0 ∷ column 0 ∷ column 0 ∷ column 0 ∷ column 0 ∷ column 0 ∷ column 0 ∷ [] in
     let value : Column = outputValue columns (startOf columns n (column 0 ∷ column 0xaaaa ∷ column 0xcccc ∷ column 0xf0f0 ∷ column 0xff00 ∷ rest)) (netOf network) in
-    let w : c .walk .result ≡ unlessRefused (walkRefusal n network 12) value = c .walk .ensures .answer in
     let a : c .walk .result ≡ unlessRefused (formRefusal n network) (column (tableFrom 16 0 (rowBit n (netOf network)))) =
-    w ∙ ap (λ o. unlessRefused o value) (twelve-places n network)
-    ∙ unless-same (formRefusal n network) value (column (tableFrom 16 0 (rowBit n (netOf network))))
-    (λ e. column-output n (netOf network) rest (form-passes n network .0 (ap passes e) .0)) in
+    answer-of-walk n network (c .walk .result) value (column (tableFrom 16 0 (rowBit n (netOf network)))) (c .walk .ensures .answer)
+    (λ h _. column-output n (netOf network) rest h) in
     record {
       answer = a;
       agrees-with-row-bits = subst (λ r. made r (λ v. (t : ℕ) → t < 16 → bitAt (v .rows) t ≡ rowBit n (netOf network) t)) (sym a) (agrees (formRefusal n network) n (netOf network));

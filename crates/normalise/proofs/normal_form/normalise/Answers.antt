@@ -9,7 +9,7 @@ use Rattle.mig.specs.Networks.{netOf, networkOf, size}
 use Rattle.mig.specs.Normal.{complements, firstNormalised, normalised}
 use Rattle.mig.specs.Rules.{formRefusal}
 use Rattle.mig_laws.proofs.Refusals.{none-from-ok}
-use Rattle.normalise.proofs.Told.{stage-size, stage-places, stage-gate, stage-turned, stage-kept, result}
+use Rattle.normalise.proofs.Stages.{stage-size, stage-places, stage-gate, stage-turned, stage-kept, result}
 use Rattle.normalise.proofs.normal_form.normalise.Needs as need
 use Rattle.normalise.proofs.normal_form.normalise.Needs.{then-complements-ge2, else-complements-ge2}
 
