@@ -1,1 +1,2 @@
 // Laws of canonical networks. They are all in proofs/, and the crates above cite them from there.
+#![tactic(auto)]

@@ -1,4 +1,6 @@
 // Networks raised to four inputs, cut to fewer, and carried by a way.
+#![tactic(auto)]
+
 mod carried;
 mod lifting;
 mod renaming;

@@ -1,4 +1,6 @@
 // The refusals that many calls share: those of a question, and those of a malformed network.
+#![tactic(auto)]
+
 ghost use Rattle.std.specs.Prelude.{◌≡◌, ◌+◌, ◌^◌, ◌≤◌, true, is_ok, Decides, OnOk};
 ghost use Rattle.mig.specs.Networks.{net_of, size, Formed};
 ghost use Rattle.mig.specs.Questions.{Valid};

@@ -1,1 +1,2 @@
 // Laws of classes of tables.
+#![tactic(auto)]

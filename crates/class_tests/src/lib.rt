@@ -1,4 +1,6 @@
 // Executed checks of the classes of tables, and of networks that are raised, cut and carried.
+#![tactic(auto)]
+
 #[cfg(test)]
 mod tests {
     use carrying::{carry_network, cut_network, raise_network};

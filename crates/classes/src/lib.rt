@@ -1,4 +1,6 @@
 // The class of a table: the smallest table that a way of carrying it reaches.
+#![tactic(auto)]
+
 mod inverse;
 mod least;
 mod tables;

@@ -1,4 +1,6 @@
 // Examining a network: whether it meets a question, its level and its greatest fan-out.
+#![tactic(auto)]
+
 ghost use Rattle.std.specs.Prelude.{◌≡◌, ◌≤◌, is_ok, IfOk, Decides};
 ghost use Rattle.mig.specs.Networks.{net_of};
 ghost use Rattle.mig.specs.Questions.{Valid, Meets, IsGreatestFanOut};

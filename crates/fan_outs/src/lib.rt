@@ -1,4 +1,6 @@
 // How often the gates of a network are used.
+#![tactic(auto)]
+
 ghost use Rattle.std.specs.Prelude.{◌≡◌, ◌+◌, ◌≤◌};
 ghost use Rattle.mig.specs.Networks.{net_of, names, uses, greatest_fan_out};
 ghost use Rattle.mig.specs.Rules.{form_refusal, unless_refused};

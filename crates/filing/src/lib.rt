@@ -1,4 +1,6 @@
 // Networks carried to the class of a question, and back.
+#![tactic(auto)]
+
 ghost use Rattle.std.specs.Prelude.{◌≡◌, IfOk};
 ghost use Rattle.mig.specs.Networks.{net_of, size};
 ghost use Rattle.mig.specs.Normal.{Normal};

@@ -1,4 +1,6 @@
 // Whether a network of at most four gates meets a question: all canonical ones are tried, gate by gate.
+#![tactic(auto)]
+
 mod candidates;
 mod columns;
 mod extend;

@@ -1,4 +1,5 @@
 // The order in which the gates at a place are tried. Its definitions and laws are in specs/ and proofs/.
+#![tactic(auto)]
 
 // A candidate for the next gate: three nodes in rising order, and the number of the fan-in that is complemented, 1 to 3, or
 // 0 for none. A third node that does not stand yet stands for a buffer: the first such node for the buffer of the first

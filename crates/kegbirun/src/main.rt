@@ -1,4 +1,6 @@
 // The program: reads commands, one a line, from a file or from standard input, and answers each on a line of its own.
+#![tactic(auto)]
+
 mod answers;
 mod commands;
 mod network_words;

@@ -1,5 +1,7 @@
 // Known cells: what `examine` and `normalise` answer on some networks, and the representatives of some tables, as one
 // proved table.
+#![tactic(auto)]
+
 ghost use Rattle.std.specs.Prelude.{◌≡◌};
 ghost use Rattle.known_cells.specs.Table.{table, question, one_gate, three_gates};
 

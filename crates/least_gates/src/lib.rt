@@ -1,4 +1,6 @@
 // Asking a search with more and more gates, up to the first number that is enough.
+#![tactic(auto)]
+
 ghost use Rattle.std.specs.Prelude.{◌≡◌, ◌-◌, length, MatchResult};
 ghost use Rattle.mig.specs.Rules.{refused_by};
 ghost use Rattle.search.specs.Meaning.{raised, ask_refusal};

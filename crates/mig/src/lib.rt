@@ -1,4 +1,6 @@
 // Majority networks over up to four inputs, the questions asked of them, and refusals.
+#![tactic(auto)]
+
 mod network;
 mod question;
 mod refusal;

@@ -1,4 +1,6 @@
 // The fewest gates of many questions, asked of searches. What the program has to write was made by other means.
+#![tactic(auto)]
+
 use bound_layer::BoundLayer;
 use classes::representative;
 use enumeration::Enumeration;

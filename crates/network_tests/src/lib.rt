@@ -1,4 +1,6 @@
 // Executed checks of the calls on networks, where the program's own run does not reach.
+#![tactic(auto)]
+
 #[cfg(test)]
 mod tests {
     use examine::examine;

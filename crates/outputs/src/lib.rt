@@ -1,4 +1,6 @@
 // The output of a network in each of the three kinds.
+#![tactic(auto)]
+
 ghost use Rattle.std.specs.Prelude.{◌≡◌, ℕ, ◌<◌, IfOk};
 ghost use Rattle.mig.specs.Networks.{net_of};
 ghost use Rattle.mig.specs.Tables.{bit_at, table_from};

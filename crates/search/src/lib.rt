@@ -1,4 +1,6 @@
 // What a search is, and the refusals that every search shares.
+#![tactic(auto)]
+
 mod admission;
 mod search;
 

@@ -1,4 +1,6 @@
 // The split search of any two searches: few gates go to the first, more to the second.
+#![tactic(auto)]
+
 ghost use Rattle.std.specs.Prelude.{◌≡◌, ◌≤◌, max, leb};
 ghost use Rattle.std.proofs.Common.{rules, arith};
 

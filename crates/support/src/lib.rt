@@ -1,4 +1,6 @@
 // The support of a table: the inputs on which it depends.
+#![tactic(auto)]
+
 ghost use Rattle.std.specs.Prelude.{◌≡◌, ◌<◌, ◌≤◌, IfOk};
 ghost use Rattle.mig.specs.Rules.{unless_refused, table_refusal};
 ghost use Rattle.mig.specs.Tables.{bit_at};

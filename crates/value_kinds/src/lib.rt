@@ -1,4 +1,6 @@
 // What a value kind is, and three of them: the bit of one row, the column of sixteen rows, the level.
+#![tactic(auto)]
+
 mod kinds;
 mod value_kind;
 

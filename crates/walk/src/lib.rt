@@ -1,4 +1,6 @@
 // The walk over a network: the value of every node, in any kind.
+#![tactic(auto)]
+
 ghost use Rattle.std.specs.Prelude.{◌≡◌, ◌+◌, ◌<◌, ◌≤◌, ◌++◌, length, take, drop, IfOk, MatchResult};
 ghost use Rattle.mig.specs.Networks.{net_of, node, value_at, gate_value, output_value, GateBelow, Ordered};
 ghost use Rattle.mig.specs.Networks.{walk as walked};
