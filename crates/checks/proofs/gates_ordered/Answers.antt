@@ -19,11 +19,11 @@ decides : (m i k : ℕ) (gs : List Gate) (t : Bool) → t ≡ is_below m (get_or
     → is_ordered m (drop i (take k gs)) ≡ (t && is_ordered (m + 1) (drop (i + 1) (take k gs)))
 decides m i k gs t e h l = next m i k gs h l ∙ ap (λ (b : Bool). b && is_ordered (m + 1) (drop (i + 1) (take k gs))) (sym e)
 
-pub returns-then-not-names-below : goal.returns-then-not-names-below
-returns-then-not-names-below c =
+pub returns-then-not-names_below : goal.returns-then-not-names_below
+returns-then-not-names_below c =
     record {
       ordered =
-          sym (decides (c.args.inputs + 1 + c.loop-i.i) c.loop-i.i c.args.network.now.count c.args.network.now.gates false c.if-not-names-below.ensures c.loop-i-test.true (omega arith))
+          sym (decides (c.args.inputs + 1 + c.loop-i.i) c.loop-i.i c.args.network.now.count c.args.network.now.gates false c.if-not-names_below.ensures c.loop-i-test.true (omega arith))
           ∙ c.loop-i.invariant.0;
       all_read = λ e. absurd (false≢true e);
     }
@@ -31,7 +31,7 @@ returns-then-not-names-below c =
 pub loop-i-preserved : goal.loop-i-preserved
 loop-i-preserved c = (
   ap (λ (m : ℕ). is_ordered m (drop (c.loop-i.i + 1) (take c.args.network.now.count c.args.network.now.gates))) (sym (add_assoc (c.args.inputs + 1) c.loop-i.i 1))
-      ∙ sym (decides (c.args.inputs + 1 + c.loop-i.i) c.loop-i.i c.args.network.now.count c.args.network.now.gates true c.if-not-names-below.ensures c.loop-i-test.true (omega arith))
+      ∙ sym (decides (c.args.inputs + 1 + c.loop-i.i) c.loop-i.i c.args.network.now.count c.args.network.now.gates true c.if-not-names_below.ensures c.loop-i-test.true (omega arith))
       ∙ c.loop-i.invariant.0,
   omega arith,
 )

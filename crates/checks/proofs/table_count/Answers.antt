@@ -7,8 +7,8 @@ use Rattle.checks.proofs.table_count.Goals as goal
 few : (n : ℕ) → n ≤ 4 → (1 * 2 ^ n) % 4294967296 ≤ 16
 few n h = rw (one_shl n 32 (omega arith)) (pow_mono {j = 4} h)
 
-pub overflow-shl-result : goal.overflow-shl-result
-overflow-shl-result c = omega (arith, few c.args.inputs c.if-inputs-gt4.false)
+pub overflow_shl-result : goal.overflow_shl-result
+overflow_shl-result c = omega (arith, few c.args.inputs c.if-inputs-gt4.false)
 
 pub returns : goal.returns
 returns c =
