@@ -22,10 +22,10 @@ loop-i-init c = (refl, omega arith)
 pub loop-i-preserved : goal.loop-i-preserved
 loop-i-preserved c =
     let m = more c.args.node c.loop-i.i c.args.network.now.count c.args.network.now.gates c.loop-i-test.true (omega arith) in
-    (omega (arith, m, c.loop-i.invariant.0, c.gate-uses-total.ensures.count), omega (arith, c.loop-i.invariant.1, c.gate-uses-total.ensures.bound))
+    (omega (arith, m, c.loop-i.invariant.0, c.gate_uses-total.ensures.count), omega (arith, c.loop-i.invariant.1, c.gate_uses-total.ensures.bound))
 
 pub returns : goal.returns
 returns c =
     let gs = take c.args.network.now.count c.args.network.now.gates in
     let e = ap (uses_in c.args.node) (take_all c.loop-i.i gs (simp length-take (omega arith))) in
-    omega (arith, e, c.loop-i.invariant.0, c.code-uses.ensures)
+    omega (arith, e, c.loop-i.invariant.0, c.code_uses.ensures)

@@ -19,14 +19,14 @@ loop-i-preserved c =
     let m : greatest (c.loop-i.i + 1) f ≡ max (greatest c.loop-i.i f) (f c.loop-i.i) = more c.loop-i.i f in
     let v : c.loop-i.most ≡ greatest c.loop-i.i f = c.loop-i.invariant in
     elim c.if-uses-most.branch [
-      | then-uses-most w ↦ omega (arith, m, v, w.most-is, w.if-uses-most.true, c.fan-out-uses.ensures)
-      | else-uses-most w ↦ omega (arith, m, v, w.most-is, w.if-uses-most.false, c.fan-out-uses.ensures)
+      | then-uses-most w ↦ omega (arith, m, v, w.most-is, w.if-uses-most.true, c.fan_out-uses.ensures)
+      | else-uses-most w ↦ omega (arith, m, v, w.most-is, w.if-uses-most.false, c.fan_out-uses.ensures)
     ]
 
 pub returns : goal.returns
 returns c =
     let n = c.args.inputs in
     let network = c.args.network.now in
-    let o : form_refusal n network ≡ None = none_from_ok (form_refusal n network) tt tt c.in-ok-check-network.ensures.answer in
-    let e : c.loop-i.i ≡ size (net_of network) = omega (arith, c.in-ok-check-network.ensures.count_is_size) in
+    let o : form_refusal n network ≡ None = none_from_ok (form_refusal n network) tt tt c.in_ok-check_network.ensures.answer in
+    let e : c.loop-i.i ≡ size (net_of network) = omega (arith, c.in_ok-check_network.ensures.count_is_size) in
     rw o (ap Ok (c.loop-i.invariant ∙ ap (λ (k : ℕ). greatest k (λ i. uses (n + 1 + i) (net_of network))) e))

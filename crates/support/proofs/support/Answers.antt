@@ -9,7 +9,7 @@ pub returns : goal.returns
 returns c =
     let n = c.args.inputs in
     let f = c.args.table in
-    let e : support_size n f ≡ ones c.support-mask.result = ap ones (sym c.support-mask.ensures) in
+    let e : support_size n f ≡ ones c.support_mask.result = ap ones (sym c.support_mask.ensures) in
     record {
       answer = search rules;
       counts_the_inputs_depended_on = subst (CountsInputs n f) e (support_counts n f);

@@ -22,11 +22,11 @@ loop-place-init c =
     let e : c.args.inputs - c.args.inputs ≡ 0 = omega arith in
     rw e refl
 
-pub overflow-mul-mask : goal.overflow-mul-mask
-overflow-mul-mask c = omega (arith, mask_small c.args.inputs c.args.table c.loop-place.place c.loop-place.mask c.requires c.loop-place.invariant)
+pub overflow_mul-mask : goal.overflow_mul-mask
+overflow_mul-mask c = omega (arith, mask_small c.args.inputs c.args.table c.loop-place.place c.loop-place.mask c.requires c.loop-place.invariant)
 
-pub overflow-add-mask : goal.overflow-add-mask
-overflow-add-mask c =
+pub overflow_add-mask : goal.overflow_add-mask
+overflow_add-mask c =
     omega (
       arith,
       mask_small c.args.inputs c.args.table c.loop-place.place c.loop-place.mask c.requires c.loop-place.invariant,

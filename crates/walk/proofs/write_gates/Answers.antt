@@ -4,8 +4,8 @@ use Rattle.mig.specs.Networks.{empty_gate, walk, gate_value}
 use Rattle.mig_laws.proofs.Steps.{ordered_row, walk_writes}
 use Rattle.walk.proofs.write_gates.Goals as goal
 
-pub gate-value-requires : goal.gate-value-requires
-gate-value-requires g c =
+pub gate_value-requires : goal.gate_value-requires
+gate_value-requires g c =
     let h = ordered_row c.args.before c.loop-i.i c.args.network.now.count c.args.network.now.gates c.requires.ordered c.loop-i-test.true (omega arith) in
     (omega (arith, h.0), omega (arith, h.1), omega (arith, h.2))
 
@@ -20,9 +20,9 @@ loop-i-preserved g c =
     let k = g.V.ValueKind.kind in
     let gs = take c.args.network.now.count c.args.network.now.gates in
     let e : get_or gs c.loop-i.i empty_gate ≡ get_or c.args.network.now.gates c.loop-i.i empty_gate = get_or-take c.args.network.now.count c.args.network.now.gates c.loop-i.i empty_gate c.loop-i-test.true in
-    walk_writes k c.args.before c.loop-i.i gs c.args.values.now c.loop-i.values c.gate-value.result
+    walk_writes k c.args.before c.loop-i.i gs c.args.values.now c.loop-i.values c.gate_value.result
     c.requires.ordered (simp length-take (omega arith)) (simp length-take (omega arith)) c.loop-i.invariant
-    (c.gate-value.ensures ∙ ap (gate_value k c.loop-i.values) (sym e))
+    (c.gate_value.ensures ∙ ap (gate_value k c.loop-i.values) (sym e))
 
 pub returns : goal.returns
 returns g c =

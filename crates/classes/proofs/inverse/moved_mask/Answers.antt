@@ -8,23 +8,23 @@ pub loop-t-init : goal.loop-t-init
 unfolding table_from
 loop-t-init c = refl
 
-pub overflow-mul-out : goal.overflow-mul-out
-overflow-mul-out c =
+pub overflow_mul-out : goal.overflow_mul-out
+overflow_mul-out c =
     let small : 4 - c.loop-t.t ≤ 4 = omega arith in
     omega (arith, rows_fit 4 (λ a. bit_at c.args.mask (source c.args.order a)) c.loop-t.t 4 (omega arith) small)
 
-pub overflow-add-out : goal.overflow-add-out
-overflow-add-out c =
+pub overflow_add-out : goal.overflow_add-out
+overflow_add-out c =
     let small : 4 - (c.loop-t.t - 1) ≤ 4 = omega arith in
     omega (
       arith,
-      row_more 4 c.args.mask (source c.args.order) c.loop-t.t c.loop-t.out c.source-by.result (omega arith) (omega arith) c.loop-t.invariant c.source-by.ensures.answer,
+      row_more 4 c.args.mask (source c.args.order) c.loop-t.t c.loop-t.out c.source_by.result (omega arith) (omega arith) c.loop-t.invariant c.source_by.ensures.answer,
       rows_fit 4 (λ a. bit_at c.args.mask (source c.args.order a)) (c.loop-t.t - 1) 4 (omega arith) small,
     )
 
 pub loop-t-preserved : goal.loop-t-preserved
 loop-t-preserved c =
-    row_more 4 c.args.mask (source c.args.order) c.loop-t.t c.loop-t.out c.source-by.result (omega arith) (omega arith) c.loop-t.invariant c.source-by.ensures.answer
+    row_more 4 c.args.mask (source c.args.order) c.loop-t.t c.loop-t.out c.source_by.result (omega arith) (omega arith) c.loop-t.invariant c.source_by.ensures.answer
 
 pub returns : goal.returns
 returns c =

@@ -4,10 +4,10 @@ use Rattle.classes.proofs.least.smallest.Goals as goal
 
 pub loop-order-preserved : goal.loop-order-preserved
 loop-order-preserved c = (
-  c.smallest-by-best.ensures.reaches,
+  c.smallest_by-best.ensures.reaches,
   below_more _ _
-      (λ k h. none_below_at_less c.args.table c.loop-order.best.table c.smallest-by-best.result.table k c.smallest-by-best.ensures.falls (c.loop-order.invariant.1 k h))
-      c.smallest-by-best.ensures.none_below,
+      (λ k h. none_below_at_less c.args.table c.loop-order.best.table c.smallest_by-best.result.table k c.smallest_by-best.ensures.falls (c.loop-order.invariant.1 k h))
+      c.smallest_by-best.ensures.none_below,
 )
 
 pub returns : goal.returns

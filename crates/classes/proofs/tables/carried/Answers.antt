@@ -10,26 +10,26 @@ pub loop-t-init : goal.loop-t-init
 unfolding table_from
 loop-t-init c = refl
 
-pub overflow-mul-out : goal.overflow-mul-out
-overflow-mul-out c =
+pub overflow_mul-out : goal.overflow_mul-out
+overflow_mul-out c =
     let small : 16 - c.loop-t.t ≤ 15 = omega arith in
     omega (arith, rows_fit 16 (λ u. bit_at c.args.table (old_row c.args.order c.args.mask u)) c.loop-t.t 15 (omega arith) small)
 
-pub overflow-cast-out : goal.overflow-cast-out
-overflow-cast-out c = omega (arith, old_row_below c.args.order c.args.mask (c.loop-t.t - 1))
+pub overflow_cast-out : goal.overflow_cast-out
+overflow_cast-out c = omega (arith, old_row_below c.args.order c.args.mask (c.loop-t.t - 1))
 
-pub overflow-shr-out : goal.overflow-shr-out
-overflow-shr-out c = omega (arith, old_row_below c.args.order c.args.mask (c.loop-t.t - 1))
+pub overflow_shr-out : goal.overflow_shr-out
+overflow_shr-out c = omega (arith, old_row_below c.args.order c.args.mask (c.loop-t.t - 1))
 
-pub overflow-add-out : goal.overflow-add-out
-overflow-add-out c =
+pub overflow_add-out : goal.overflow_add-out
+overflow_add-out c =
     let small : 16 - (c.loop-t.t - 1) ≤ 16 = omega arith in
     omega (
       arith,
-      row_more 16 c.args.table (old_row c.args.order c.args.mask) c.loop-t.t c.loop-t.out c.old-row.result (omega arith) (omega arith) c.loop-t.invariant c.old-row.ensures,
+      row_more 16 c.args.table (old_row c.args.order c.args.mask) c.loop-t.t c.loop-t.out c.old_row.result (omega arith) (omega arith) c.loop-t.invariant c.old_row.ensures,
       rows_fit 16 (λ u. bit_at c.args.table (old_row c.args.order c.args.mask u)) (c.loop-t.t - 1) 16 (omega arith) small,
     )
 
 pub loop-t-preserved : goal.loop-t-preserved
 loop-t-preserved c =
-    row_more 16 c.args.table (old_row c.args.order c.args.mask) c.loop-t.t c.loop-t.out c.old-row.result (omega arith) (omega arith) c.loop-t.invariant c.old-row.ensures
+    row_more 16 c.args.table (old_row c.args.order c.args.mask) c.loop-t.t c.loop-t.out c.old_row.result (omega arith) (omega arith) c.loop-t.invariant c.old_row.ensures

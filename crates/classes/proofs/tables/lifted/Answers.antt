@@ -9,13 +9,13 @@ pub loop-t-init : goal.loop-t-init
 unfolding table_from
 loop-t-init c = refl
 
-pub overflow-mul-out : goal.overflow-mul-out
-overflow-mul-out c =
+pub overflow_mul-out : goal.overflow_mul-out
+overflow_mul-out c =
     let small : 16 - c.loop-t.t ≤ 15 = omega arith in
     omega (arith, rows_fit 16 (λ u. bit_at c.args.table (u % (2 ^ c.args.inputs))) c.loop-t.t 15 (omega arith) small)
 
-pub overflow-add-out : goal.overflow-add-out
-overflow-add-out c =
+pub overflow_add-out : goal.overflow_add-out
+overflow_add-out c =
     let small : 16 - (c.loop-t.t - 1) ≤ 16 = omega arith in
     omega (
       arith,

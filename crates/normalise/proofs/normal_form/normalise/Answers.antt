@@ -9,7 +9,7 @@ use Rattle.normalise.proofs.normal_form.normalise.Goals as goal
 use Rattle.normalise.proofs.normal_form.normalise.Goals.{then-complements-ge2, else-complements-ge2}
 
 pub cleared-normal-requires : goal.cleared-normal-requires
-cleared-normal-requires c = (c.in-ok-check-network.ensures.accepted_exactly_when_formed.0 (refl {a = true})).1
+cleared-normal-requires c = (c.in_ok-check_network.ensures.accepted_exactly_when_formed.0 (refl {a = true})).1
 
 pub loop-i-init : goal.loop-i-init
 unfolding first_normalised
@@ -17,9 +17,9 @@ loop-i-init c = c.cleared-normal.ensures
 
 pub turned-normal-requires : goal.turned-normal-requires
 turned-normal-requires c =
-    let f = c.in-ok-check-network.ensures.accepted_exactly_when_formed.0 (refl {a = true}) in
+    let f = c.in_ok-check_network.ensures.accepted_exactly_when_formed.0 (refl {a = true}) in
     let net = net_of c.args.network.now in
-    let z = c.in-ok-check-network.ensures.count_is_size in
+    let z = c.in_ok-check_network.ensures.count_is_size in
     let s = stage_size c.args.inputs c.loop-i.i net f.2 (omega arith) in
     let k : c.loop-i.normal.count ≡ size (first_normalised c.args.inputs c.loop-i.i net) = ap (λ (m : Network). m.count) c.loop-i.invariant in
     record {
@@ -31,11 +31,11 @@ turned-normal-requires c =
 
 pub loop-i-preserved : goal.loop-i-preserved
 loop-i-preserved c =
-    let f = c.in-ok-check-network.ensures.accepted_exactly_when_formed.0 (refl {a = true}) in
+    let f = c.in_ok-check_network.ensures.accepted_exactly_when_formed.0 (refl {a = true}) in
     let n = c.args.inputs in
     let i = c.loop-i.i in
     let net = net_of c.args.network.now in
-    let z = c.in-ok-check-network.ensures.count_is_size in
+    let z = c.in_ok-check_network.ensures.count_is_size in
     let s = stage_size n i net f.2 (omega arith) in
     let g = c.complements.ensures ∙ stage_gate (first_normalised n i net) c.loop-i.normal i c.loop-i.invariant (omega (arith, c.loop-i-test.true)) in
     elim c.if-complements-ge2.branch [
@@ -45,14 +45,14 @@ loop-i-preserved c =
 
 pub returns : goal.returns
 returns c =
-    let f = c.in-ok-check-network.ensures.accepted_exactly_when_formed.0 (refl {a = true}) in
+    let f = c.in_ok-check_network.ensures.accepted_exactly_when_formed.0 (refl {a = true}) in
     let n = c.args.inputs in
     let network = c.args.network.now in
     let net = net_of network in
-    let z = c.in-ok-check-network.ensures.count_is_size in
+    let z = c.in_ok-check_network.ensures.count_is_size in
     let k : c.loop-i.i ≡ size net = omega arith in
     let e : c.loop-i.normal ≡ network_of (normalised n net) = c.loop-i.invariant ∙ ap (λ (i : ℕ). network_of (first_normalised n i net)) k in
-    let o : form_refusal n network ≡ None = none_from_ok (form_refusal n network) tt tt c.in-ok-check-network.ensures.answer in
+    let o : form_refusal n network ≡ None = none_from_ok (form_refusal n network) tt tt c.in_ok-check_network.ensures.answer in
     let r = result n network c.loop-i.normal f.2 z e in
     record {
       answer = rw o (ap Ok e);

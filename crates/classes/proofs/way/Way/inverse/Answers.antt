@@ -8,9 +8,9 @@ use Rattle.classes.proofs.way.Way.inverse.Goals as goal
 pub returns : goal.returns
 returns c =
     let w : Way = way_of c.args.self in
-    let order = c.inverse-order-order.ensures.answer in
-    let mask = c.moved-mask.ensures.answer ∙ ap (λ (k : ℕ). table_from 4 0 (λ a. bit_at w.mask (source k a))) order in
-    let e : ◌≡◌ {A = Way} (record { order = c.inverse-order-order.result; mask = c.moved-mask.result; flipped = w.flipped }) (inverse w) =
+    let order = c.inverse_order-order.ensures.answer in
+    let mask = c.moved_mask.ensures.answer ∙ ap (λ (k : ℕ). table_from 4 0 (λ a. bit_at w.mask (source k a))) order in
+    let e : ◌≡◌ {A = Way} (record { order = c.inverse_order-order.result; mask = c.moved_mask.result; flipped = w.flipped }) (inverse w) =
     λ i. record { order = order i; mask = mask i; flipped = w.flipped } in
     record {
       answer = e;
