@@ -1,8 +1,8 @@
 use Rattle.std.proofs.Common.{arith, rules}
 use Rattle.least_gates.proofs.least_gates.Goals as goal
 
-pub overflow-add-lower : goal.overflow-add-lower
-overflow-add-lower g c = omega arith
+pub overflow_add-lower : goal.overflow_add-lower
+overflow_add-lower g c = omega arith
 
 pub returns : goal.returns
 returns g c =

@@ -13,16 +13,16 @@ use Rattle.carrying.proofs.carried.carry_network.Goals as goal
 
 pub renamed-requires : goal.renamed-requires
 renamed-requires c =
-    let f = c.in-ok-check-network.ensures.accepted_exactly_when_formed.0 (refl {a = true}) in
-    let b = nodes_below_12 4 c.args.network.now f.0 f.1 c.in-ok-check-network.ensures.count_is_size f.2 in
+    let f = c.in_ok-check_network.ensures.accepted_exactly_when_formed.0 (refl {a = true}) in
+    let b = nodes_below_12 4 c.args.network.now f.0 f.1 c.in_ok-check_network.ensures.count_is_size f.2 in
     record { few = f.1; gates = b.gates; output = b.output }
 
 pub returns : goal.returns
 returns c =
-    let f = c.in-ok-check-network.ensures.accepted_exactly_when_formed.0 (refl {a = true}) in
+    let f = c.in_ok-check_network.ensures.accepted_exactly_when_formed.0 (refl {a = true}) in
     let network = c.args.network.now in
     let net = net_of network in
-    let o : network_refusal 4 network ≡ None = none_from_ok (network_refusal 4 network) tt tt c.in-ok-check-network.ensures.answer in
+    let o : network_refusal 4 network ≡ None = none_from_ok (network_refusal 4 network) tt tt c.in_ok-check_network.ensures.answer in
     let there : net_of c.renamed.result ≡ carry_net (way_of c.args.way) net = ap net_of c.renamed.ensures ∙ net_of-network_of (carry_net (way_of c.args.way) net) in
     let way : IsWay (way_of c.args.way) = (c.args.way.listed, c.args.way.inputs) in
     record {

@@ -8,7 +8,7 @@ use Rattle.carrying.proofs.renaming.renamed.Goals as goal
 pub loop-i-preserved : goal.loop-i-preserved
 loop-i-preserved g c =
     let f = rename_gate (g.R.Renaming.code c.args.renaming.now) in (
-      ap₂ (λ (gs : List Gate) (x : Gate). set gs c.loop-i.i x) c.loop-i.invariant.0 c.renamed-gate.ensures
+      ap₂ (λ (gs : List Gate) (x : Gate). set gs c.loop-i.i x) c.loop-i.invariant.0 c.renamed_gate.ensures
           ∙ rename_more f c.args.network.now.gates c.loop-i.i (omega arith) (omega arith),
       omega arith,
     )
@@ -19,6 +19,6 @@ returns g c =
     let o : ℕ = cond c.args.flipped 1 0 in
     let gs = c.args.network.now.gates in
     let e : c.loop-i.i ≡ c.args.network.now.count = omega arith in
-    renamed_places σ o c.args.network.now c.loop-i.gates c.complemented-if.result (omega (arith, c.loop-i.invariant.1))
+    renamed_places σ o c.args.network.now c.loop-i.gates c.complemented_if.result (omega (arith, c.loop-i.invariant.1))
     (c.loop-i.invariant.0 ∙ ap (λ (i : ℕ). map (rename_gate σ) (take i gs) ++ replicate (7 - i) empty_gate) e)
-    (c.complemented-if.ensures ∙ ap (complement_by o) c.renamed-code-output.ensures)
+    (c.complemented_if.ensures ∙ ap (complement_by o) c.renamed_code-output.ensures)
