@@ -15,7 +15,7 @@ use value_kinds::ValueKind;
 // What a code stands for, of the values of the nodes.
 fn code_value<V: ValueKind>(values: &[V], code: u8) -> V
     requires { node code < length values.now }
-    ensures { result ≡ value_at kind values.now code }
+    ensures { result ≡ value_at V.kind values.now code }
 {
     let value = values[(code / 2) as usize];
     if code % 2 == 1 {
@@ -28,7 +28,7 @@ fn code_value<V: ValueKind>(values: &[V], code: u8) -> V
 // The value of a gate, of the values of the nodes.
 fn gate_value<V: ValueKind>(values: &[V], gate: Gate) -> V
     requires { GateBelow (length values.now) gate }
-    ensures { result ≡ gate_value kind values.now gate }
+    ensures { result ≡ gate_value V.kind values.now gate }
 {
     let a = code_value(values, gate.first);
     let b = code_value(values, gate.second);
@@ -41,7 +41,7 @@ fn write_gates<V: ValueKind>(network: &Network, before: usize, values: &mut [V])
     requires few { network.now.count ≤ 7 }
     requires long { before + network.now.count ≤ length values.old }
     requires ordered { Ordered before (take network.now.count network.now.gates) }
-    ensures { values.new ≡ walked kind (take before values.old) (take network.now.count network.now.gates) ++ drop (before + network.now.count) values.old }
+    ensures { values.new ≡ walked V.kind (take before values.old) (take network.now.count network.now.gates) ++ drop (before + network.now.count) values.old }
 {
     for i in 0..network.count as usize {
         values[before + i] = gate_value(values, network.gates[i]);
@@ -51,9 +51,9 @@ fn write_gates<V: ValueKind>(network: &Network, before: usize, values: &mut [V])
 // The walk, in any kind: from the values of the inputs, in the places from 1 on, the value of every node in its own
 // place. It answers the value of the output.
 pub fn walk<V: ValueKind>(inputs: u8, network: &Network, values: &mut [V]) -> Result<V, Refusal>
-    ensures answer { result ≡ unless_refused (walk_refusal inputs network.now (length values.old)) (output_value kind (start_of kind inputs values.old) (net_of network.now)) }
-    ensures values_of_all_nodes { MatchResult result (λ _. values.new ≡ walked kind (start_of kind inputs values.old) (net_of network.now).gates ++ drop (inputs + 1 + network.now.count) values.old) (λ _. values.new ≡ values.old) }
-    ensures kept_by_normalising { IfOk result (λ v. v ≡ output_value kind (start_of kind inputs values.old) (normalised inputs (net_of network.now))) }
+    ensures answer { result ≡ unless_refused (walk_refusal inputs network.now (length values.old)) (output_value V.kind (start_of V.kind inputs values.old) (net_of network.now)) }
+    ensures values_of_all_nodes { MatchResult result (λ _. values.new ≡ walked V.kind (start_of V.kind inputs values.old) (net_of network.now).gates ++ drop (inputs + 1 + network.now.count) values.old) (λ _. values.new ≡ values.old) }
+    ensures kept_by_normalising { IfOk result (λ v. v ≡ output_value V.kind (start_of V.kind inputs values.old) (normalised inputs (net_of network.now))) }
 {
     check_network(inputs, network)?;
     let before = inputs as usize + 1;

@@ -21,8 +21,8 @@ returns c =
     let network = c.args.network.now in
     let rest : List Level = zero ∷ zero ∷ zero ∷ zero ∷ zero ∷ zero ∷ zero ∷ [] in
     let value : Level = output_value capped_levels (start_of capped_levels n (zero ∷ zero ∷ zero ∷ zero ∷ zero ∷ rest)) (net_of network) in
-    let w : Ok c.in-ok-output.output ≡ unless_refused (form_refusal n network) (leveled (level n (net_of network))) =
-    answer_of_walk n network (Ok c.in-ok-output.output) value (leveled (level n (net_of network))) c.in-ok-output.ensures.answer
+    let w : Ok c.in_ok-output.output ≡ unless_refused (form_refusal n network) (leveled (level n (net_of network))) =
+    answer_of_walk n network (Ok c.in_ok-output.output) value (leveled (level n (net_of network))) c.in_ok-output.ensures.answer
     (λ a b. ap leveled (level_output n (net_of network) rest a (omega (arith, b, length-take network.count network.gates)))) in
-    let o = none_from_ok (form_refusal n network) (leveled (level n (net_of network))) c.in-ok-output.output w in
-    rw o (ap Ok (ap (λ (x : Level). x.value) (value_from_ok (form_refusal n network) (leveled (level n (net_of network))) c.in-ok-output.output w)))
+    let o = none_from_ok (form_refusal n network) (leveled (level n (net_of network))) c.in_ok-output.output w in
+    rw o (ap Ok (ap (λ (x : Level). x.value) (value_from_ok (form_refusal n network) (leveled (level n (net_of network))) c.in_ok-output.output w)))

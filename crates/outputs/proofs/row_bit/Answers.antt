@@ -14,10 +14,10 @@ returns c =
     let row = c.args.row in
     let rest : List Bool = false ∷ false ∷ false ∷ false ∷ false ∷ false ∷ false ∷ [] in
     let value : Bool = output_value bits (false ∷ take n (bit_at row 0 ∷ bit_at row 1 ∷ bit_at row 2 ∷ bit_at row 3 ∷ rest)) (net_of network) in
-    let a : c.input-bit.result ≡ bit_at row 0 = c.input-bit.ensures in
-    let b : c.input-bit-2.result ≡ bit_at row 1 = c.input-bit-2.ensures in
-    let d : c.input-bit-3.result ≡ bit_at row 2 = c.input-bit-3.ensures in
-    let e : c.input-bit-4.result ≡ bit_at row 3 = c.input-bit-4.ensures in
+    let a : c.input_bit.result ≡ bit_at row 0 = c.input_bit.ensures in
+    let b : c.input_bit-2.result ≡ bit_at row 1 = c.input_bit-2.ensures in
+    let d : c.input_bit-3.result ≡ bit_at row 2 = c.input_bit-3.ensures in
+    let e : c.input_bit-4.result ≡ bit_at row 3 = c.input_bit-4.ensures in
     let w : c.walk.result ≡ unless_refused (walk_refusal n network 12) value = rw (← a, ← b, ← d, ← e) c.walk.ensures.answer in
     answer_of_walk n network c.walk.result value (row_bit n (net_of network) row) w
     (λ h _. ap (λ vs. output_value bits (false ∷ vs) (net_of network)) (row_inputs n row rest h))

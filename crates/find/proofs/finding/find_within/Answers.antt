@@ -8,7 +8,7 @@ use Rattle.find.proofs.finding.find_within.Goals as goal
 
 pub returns-then-gates-eq0 : goal.returns-then-gates-eq0
 returns-then-gates-eq0 c =
-    let none = c.if-find-without-gates.ensures in
+    let none = c.if-find_without_gates.ensures in
     (none.0, none_within c.args.question c.args.gates none.1 (λ some. absurd (omega arith)))
 
 -- what the search behind no gates answers, where no network without gates meets the question
@@ -21,10 +21,10 @@ pub returns : goal.returns
 returns c =
     let q = c.args.question in
     let gates = c.args.gates in
-    let between = c.find-without-gates.new.place in
+    let between = c.find_without_gates.new.place in
     let after = c.extend.new.place in
     let found = c.extend.result in
-    let none = c.if-find-without-gates.ensures in
+    let none = c.if-find_without_gates.ensures in
     outcome q gates c.args.place.now between after found none.0 none.1
-    (subst (λ m. FoundOr (NoneExtends q [] gates) q (m + gates) between after found) c.empty-prefix.ensures.count
-    (subst (λ gs. FoundOr (NoneExtends q gs gates) q (c.empty-prefix.result.network.count + gates) between after found) c.empty-prefix.ensures.gates c.extend.ensures))
+    (subst (λ m. FoundOr (NoneExtends q [] gates) q (m + gates) between after found) c.empty_prefix.ensures.count
+    (subst (λ gs. FoundOr (NoneExtends q gs gates) q (c.empty_prefix.result.network.count + gates) between after found) c.empty_prefix.ensures.gates c.extend.ensures))

@@ -8,10 +8,10 @@ returns c =
     let n = c.args.inputs in
     let prefix = c.args.prefix.now in
     let g = c.args.next.gate in
-    let more : Prefix = record { network = c.with-gate.result; columns = c.with-column.result } in
-    let network = c.with-gate.ensures in
+    let more : Prefix = record { network = c.with_gate.result; columns = c.with_column.result } in
+    let network = c.with_gate.ensures in
     record {
-      prefix = longer_is_prefix n prefix c.requires.prefix more g network c.args.next.column (n + 1 + prefix.network.count) refl (omega arith) c.requires.column c.with-column.ensures;
+      prefix = longer_is_prefix n prefix c.requires.prefix more g network c.args.next.column (n + 1 + prefix.network.count) refl (omega arith) c.requires.column c.with_column.ensures;
       gates = placed_longer n prefix c.requires.prefix more g network;
       count = count_longer n prefix c.requires.prefix more g network;
     }
