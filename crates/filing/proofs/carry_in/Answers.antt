@@ -14,7 +14,7 @@ use Rattle.filing.specs.Filing.{LeadsToClass, kept_by, class_question}
 use Rattle.filing.proofs.Carried.{leads, kept_meets, kept_form}
 use Rattle.filing.proofs.Placed.{Holding, not_refused, raised_place, carried_place, normalised_place}
 use Rattle.filing.proofs.carry_in.Goals as goal
-use Rattle.filing.proofs.carry_in.Goals.{In-ok-way}
+use Rattle.filing.proofs.carry_in.Goals.{In_ok-way}
 
 pub returns-in-err-examine : goal.returns-in-err-examine
 returns-in-err-examine c =
@@ -23,7 +23,7 @@ returns-in-err-examine c =
     rw (p.1, p.2, o) (record { refused_as_examined = refl; carried_by_a_way = tt; meets_the_question_of_the_class = tt; is_normal = tt; keeps_the_number_of_gates = tt })
 
 -- the raised network stands in its places
-raised : (c : In-ok-way) → Holding 4 (raise_net 4 c.args.question.now.inputs (net_of c.args.network.now)) c.in-ok-raised.raised
+raised : (c : In_ok-way) → Holding 4 (raise_net 4 c.args.question.now.inputs (net_of c.args.network.now)) c.in-ok-raised.raised
 raised c =
     let m = c.in-ok-examine.ensures.accepted_exactly_when_met.0 (refl {a = true}) in
     raised_place c.args.question.now.inputs (net_of c.args.network.now) c.args.network.now c.in-ok-raised.raised m.0.inputs
@@ -34,7 +34,7 @@ returns-in-err-carried c =
     let place = c.in-ok-raised.raised in
     let o = some_from_err (network_refusal 4 place) _ c.in-err-carried.field-0.0 c.in-err-carried.ensures.answer in
     let none = not_refused 4 (raise_net 4 c.args.question.now.inputs (net_of c.args.network.now)) place (omega arith)
-    (raised (goal.at.returns-in-err-carried c).In-ok-way) in
+    (raised (goal.at.returns-in-err-carried c).In_ok-way) in
     let s = sym none ∙ o in
     absurd (let z : ◌≡◌ {A = ℕ} 0 1 = cc in omega arith)
 
@@ -46,7 +46,7 @@ returns c =
     let m = c.in-ok-examine.ensures.accepted_exactly_when_met.0 (refl {a = true}) in
     let w : Way = way_of c.in-ok-way.way in
     let way : LeadsToClass q w = leads q w (c.in-ok-way.way.listed, c.in-ok-way.way.inputs) c.in-ok-way.ensures.leads_there in
-    let up = raised (goal.at.returns c).In-ok-way in
+    let up = raised (goal.at.returns c).In_ok-way in
     let there = carried_place w (raise_net 4 q.inputs net) c.in-ok-raised.raised c.in-ok-carried.carried way.is_way up c.in-ok-carried.ensures.answer in
     let e = normalised_place 4 (carry_net w (raise_net 4 q.inputs net)) c.in-ok-carried.carried c.normalise.result (omega arith) there c.normalise.ensures.answer in
     let o = none_from_ok (examine_refusal q network) _ c.in-ok-examine.field-0 c.in-ok-examine.ensures.answer in

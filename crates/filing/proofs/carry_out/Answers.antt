@@ -13,7 +13,7 @@ use Rattle.filing.specs.Filing.{LeadsToClass, given_by, class_question}
 use Rattle.filing.proofs.Carried.{leads, given_meets, given_form}
 use Rattle.filing.proofs.Placed.{Holding, not_refused, carried_place, cut_place, normalised_place}
 use Rattle.filing.proofs.carry_out.Goals as goal
-use Rattle.filing.proofs.carry_out.Goals.{In-ok-carried}
+use Rattle.filing.proofs.carry_out.Goals.{In_ok-carried}
 
 pub returns-in-err-check-question : goal.returns-in-err-check-question
 returns-in-err-check-question c =
@@ -29,7 +29,7 @@ returns-in-err-carried c =
     rw (p.1, p.2, q, o) (record { refused_by_the_rule = refl; carried_by_a_way = tt; meets_the_question_if_it_meets_that_of_the_class = tt; is_normal = tt; keeps_the_number_of_gates = tt })
 
 -- the network as it is lent
-lent : (c : In-ok-carried) → Holding 4 (net_of c.args.network.now) c.args.network.now
+lent : (c : In_ok-carried) → Holding 4 (net_of c.args.network.now) c.args.network.now
 lent c =
     let network = c.args.network.now in
     let o : network_refusal 4 network ≡ None = none_from_ok (network_refusal 4 network) _ c.in-ok-carried.carried c.in-ok-carried.ensures.answer in
@@ -37,7 +37,7 @@ lent c =
     record { held = refl; formed = f.1; few = f.0 }
 
 -- the carried network stands in its places
-carried : (c : In-ok-carried) → Holding 4 (carry_net (inverse (way_of c.in-ok-way.way)) (net_of c.args.network.now)) c.in-ok-carried.carried
+carried : (c : In_ok-carried) → Holding 4 (carry_net (inverse (way_of c.in-ok-way.way)) (net_of c.args.network.now)) c.in-ok-carried.carried
 carried c =
     let w : Way = way_of c.in-ok-way.way in
     let e : way_of c.inverse.result ≡ inverse w = c.inverse.ensures.answer in
@@ -47,7 +47,7 @@ carried c =
 
 pub returns-in-err-cut : goal.returns-in-err-cut
 returns-in-err-cut c =
-    let at = (goal.at.returns-in-err-cut c).In-ok-carried in
+    let at = (goal.at.returns-in-err-cut c).In_ok-carried in
     let n = c.args.question.now.inputs in
     let valid = c.in-ok-check-question.ensures.accepted_exactly_when_valid.0 (refl {a = true}) in
     let place = c.in-ok-carried.carried in
@@ -58,7 +58,7 @@ returns-in-err-cut c =
 
 pub returns : goal.returns
 returns c =
-    let at = (goal.at.returns c).In-ok-carried in
+    let at = (goal.at.returns c).In_ok-carried in
     let q = c.args.question.now in
     let net = net_of c.args.network.now in
     let valid = c.in-ok-check-question.ensures.accepted_exactly_when_valid.0 (refl {a = true}) in
