@@ -26,9 +26,9 @@ pub fn least_gates<S: Search>(
     place: &mut Network,
     words: &mut [u32],
 ) -> Result<Asked, Refusal>
-    ensures refused_by_the_rule { refused_by result ≡ ask_refusal question.now (end - 1) (reach search.old) (need search.old) (length words.old) }
-    ensures reach_and_need_stay { (reach search.new ≡ reach search.old) × (need search.new ≡ need search.old) }
-    ensures asked_up_to_the_first_found { MatchResult result (λ r. (count search.new ≡ raised (count search.old) r.times) × AskedBelow question.now from end place.old place.new r)
+    ensures refused_by_the_rule { refused_by result ≡ ask_refusal question.now (end - 1) (S.reach search.old) (S.need search.old) (length words.old) }
+    ensures reach_and_need_stay { (S.reach search.new ≡ S.reach search.old) × (S.need search.new ≡ S.need search.old) }
+    ensures asked_up_to_the_first_found { MatchResult result (λ r. (S.count search.new ≡ raised (S.count search.old) r.times) × AskedBelow question.now from end place.old place.new r)
         (λ _. (search.new ≡ search.old) × (place.new ≡ place.old) × (words.new ≡ words.old)) }
 {
     check_ask(

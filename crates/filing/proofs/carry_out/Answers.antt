@@ -15,43 +15,43 @@ use Rattle.filing.proofs.Placed.{Holding, not_refused, carried_place, cut_place,
 use Rattle.filing.proofs.carry_out.Goals as goal
 use Rattle.filing.proofs.carry_out.Goals.{In_ok-carried}
 
-pub returns-in-err-check-question : goal.returns-in-err-check-question
-returns-in-err-check-question c =
-    let p = err_from_is_err_and c.from-residual.result c.from-residual.ensures.1 in
-    let o = some_from_err (question_refusal c.args.question.now) tt c.in-err-check-question.field-0.0 c.in-err-check-question.ensures.answer in
+pub returns-in_err-check_question : goal.returns-in_err-check_question
+returns-in_err-check_question c =
+    let p = err_from_is_err_and c.from_residual.result c.from_residual.ensures.1 in
+    let o = some_from_err (question_refusal c.args.question.now) tt c.in_err-check_question.field-0.0 c.in_err-check_question.ensures.answer in
     rw (p.1, p.2, o) (record { refused_by_the_rule = refl; carried_by_a_way = tt; meets_the_question_if_it_meets_that_of_the_class = tt; is_normal = tt; keeps_the_number_of_gates = tt })
 
-pub returns-in-err-carried : goal.returns-in-err-carried
-returns-in-err-carried c =
-    let p = err_from_is_err_and c.from-residual-in-err-carried.result c.from-residual-in-err-carried.ensures.1 in
-    let q = none_from_ok (question_refusal c.args.question.now) tt tt c.in-ok-check-question.ensures.answer in
-    let o = some_from_err (network_refusal 4 c.args.network.now) _ c.in-err-carried.field-0.0 c.in-err-carried.ensures.answer in
+pub returns-in_err-carried : goal.returns-in_err-carried
+returns-in_err-carried c =
+    let p = err_from_is_err_and c.from_residual-in_err-carried.result c.from_residual-in_err-carried.ensures.1 in
+    let q = none_from_ok (question_refusal c.args.question.now) tt tt c.in_ok-check_question.ensures.answer in
+    let o = some_from_err (network_refusal 4 c.args.network.now) _ c.in_err-carried.field-0.0 c.in_err-carried.ensures.answer in
     rw (p.1, p.2, q, o) (record { refused_by_the_rule = refl; carried_by_a_way = tt; meets_the_question_if_it_meets_that_of_the_class = tt; is_normal = tt; keeps_the_number_of_gates = tt })
 
 -- the network as it is lent
 lent : (c : In_ok-carried) → Holding 4 (net_of c.args.network.now) c.args.network.now
 lent c =
     let network = c.args.network.now in
-    let o : network_refusal 4 network ≡ None = none_from_ok (network_refusal 4 network) _ c.in-ok-carried.carried c.in-ok-carried.ensures.answer in
+    let o : network_refusal 4 network ≡ None = none_from_ok (network_refusal 4 network) _ c.in_ok-carried.carried c.in_ok-carried.ensures.answer in
     let f = none_means_formed 4 network o in
     record { held = refl; formed = f.1; few = f.0 }
 
 -- the carried network stands in its places
-carried : (c : In_ok-carried) → Holding 4 (carry_net (inverse (way_of c.in-ok-way.way)) (net_of c.args.network.now)) c.in-ok-carried.carried
+carried : (c : In_ok-carried) → Holding 4 (carry_net (inverse (way_of c.in_ok-way.way)) (net_of c.args.network.now)) c.in_ok-carried.carried
 carried c =
-    let w : Way = way_of c.in-ok-way.way in
+    let w : Way = way_of c.in_ok-way.way in
     let e : way_of c.inverse.result ≡ inverse w = c.inverse.ensures.answer in
-    subst (λ (v : Way). Holding 4 (carry_net v (net_of c.args.network.now)) c.in-ok-carried.carried) e
-    (carried_place (way_of c.inverse.result) (net_of c.args.network.now) c.args.network.now c.in-ok-carried.carried
-    (c.inverse.result.listed, c.inverse.result.inputs) (lent c) c.in-ok-carried.ensures.answer)
+    subst (λ (v : Way). Holding 4 (carry_net v (net_of c.args.network.now)) c.in_ok-carried.carried) e
+    (carried_place (way_of c.inverse.result) (net_of c.args.network.now) c.args.network.now c.in_ok-carried.carried
+    (c.inverse.result.listed, c.inverse.result.inputs) (lent c) c.in_ok-carried.ensures.answer)
 
-pub returns-in-err-cut : goal.returns-in-err-cut
-returns-in-err-cut c =
-    let at = (goal.at.returns-in-err-cut c).In_ok-carried in
+pub returns-in_err-cut : goal.returns-in_err-cut
+returns-in_err-cut c =
+    let at = (goal.at.returns-in_err-cut c).In_ok-carried in
     let n = c.args.question.now.inputs in
-    let valid = c.in-ok-check-question.ensures.accepted_exactly_when_valid.0 (refl {a = true}) in
-    let place = c.in-ok-carried.carried in
-    let o = some_from_err (or_else (inputs_refusal n) (network_refusal 4 place)) _ c.in-err-cut.field-0.0 c.in-err-cut.ensures.answer in
+    let valid = c.in_ok-check_question.ensures.accepted_exactly_when_valid.0 (refl {a = true}) in
+    let place = c.in_ok-carried.carried in
+    let o = some_from_err (or_else (inputs_refusal n) (network_refusal 4 place)) _ c.in_err-cut.field-0.0 c.in_err-cut.ensures.answer in
     let none : or_else (inputs_refusal n) (network_refusal 4 place) ≡ None = rw (inputs_not_refused n valid.inputs) (not_refused 4 _ place (omega arith) (carried at)) in
     let s = sym none ∙ o in
     absurd (let z : ◌≡◌ {A = ℕ} 0 1 = cc in omega arith)
@@ -61,12 +61,12 @@ returns c =
     let at = (goal.at.returns c).In_ok-carried in
     let q = c.args.question.now in
     let net = net_of c.args.network.now in
-    let valid = c.in-ok-check-question.ensures.accepted_exactly_when_valid.0 (refl {a = true}) in
-    let w : Way = way_of c.in-ok-way.way in
-    let way : LeadsToClass q w = leads q w (c.in-ok-way.way.listed, c.in-ok-way.way.inputs) c.in-ok-way.ensures.leads_there in
-    let there = cut_place q.inputs (carry_net (inverse w) net) c.in-ok-carried.carried c.in-ok-cut.cut valid.inputs (carried at) c.in-ok-cut.ensures.answer in
-    let e = normalised_place q.inputs (cut_net 4 q.inputs (carry_net (inverse w) net)) c.in-ok-cut.cut c.normalise.result valid.inputs there c.normalise.ensures.answer in
-    let o = none_from_ok (question_refusal q) tt tt c.in-ok-check-question.ensures.answer in
+    let valid = c.in_ok-check_question.ensures.accepted_exactly_when_valid.0 (refl {a = true}) in
+    let w : Way = way_of c.in_ok-way.way in
+    let way : LeadsToClass q w = leads q w (c.in_ok-way.way.listed, c.in_ok-way.way.inputs) c.in_ok-way.ensures.leads_there in
+    let there = cut_place q.inputs (carry_net (inverse w) net) c.in_ok-carried.carried c.in_ok-cut.cut valid.inputs (carried at) c.in_ok-cut.ensures.answer in
+    let e = normalised_place q.inputs (cut_net 4 q.inputs (carry_net (inverse w) net)) c.in_ok-cut.cut c.normalise.result valid.inputs there c.normalise.ensures.answer in
+    let o = none_from_ok (question_refusal q) tt tt c.in_ok-check_question.ensures.answer in
     let o' = not_refused 4 net c.args.network.now (omega arith) (lent at) in
     let form = given_form q w net valid.inputs way (lent at).formed in
     let back = net_of-network_of (given_by w q net) in

@@ -48,13 +48,13 @@ majority_class = refl
 
 pub returns : goal.returns
 returns c =
-    let a : c.examine-majority.result ≡ Ok (1, 1) = c.examine-majority.ensures.answer ∙ ap₂ examined c.asked.ensures c.one-gate.ensures ∙ majority-examined in
-    let b : c.examine-conjunction.result ≡ Ok (1, 1) = c.examine-conjunction.ensures.answer ∙ ap₂ examined c.asked-2.ensures c.one-gate-2.ensures ∙ conjunction_examined in
-    let d : c.examine-parity.result ≡ Ok (2, 1) = c.examine-parity.ensures.answer ∙ ap₂ examined c.asked-3.ensures c.three-gates-three.ensures ∙ parity_examined in
-    let e : c.examine-parity-in-one-level.result ≡ Err LevelAboveLimit = c.examine-parity-in-one-level.ensures.answer ∙ ap₂ examined c.asked-4.ensures c.three-gates-three.ensures ∙ parity_refused in
-    let f : c.normalise-normal-form.result ≡ Ok (one_gate 2 4 7 9) = c.normalise-normal-form.ensures.answer ∙ ap (normalised_answer 3) c.one-gate-3.ensures ∙ normal_form in
-    let g : c.representative-class-of-constant-0.result ≡ Ok 0x0000 = c.representative-class-of-constant-0.ensures.answer ∙ ap Ok constant_0_class in
-    let h : c.representative-class-of-constant-1.result ≡ Ok 0x0000 = c.representative-class-of-constant-1.ensures.answer ∙ ap Ok constant_1_class in
-    let i : c.representative-class-of-an-input.result ≡ Ok 0x00ff = c.representative-class-of-an-input.ensures.answer ∙ ap Ok input_class in
-    let j : c.representative-class-of-majority.result ≡ Ok 0x033f = c.representative-class-of-majority.ensures.answer ∙ ap Ok majority_class in
+    let a : c.examine-majority.result ≡ Ok (1, 1) = c.examine-majority.ensures.answer ∙ ap₂ examined c.asked.ensures c.one_gate.ensures ∙ majority-examined in
+    let b : c.examine-conjunction.result ≡ Ok (1, 1) = c.examine-conjunction.ensures.answer ∙ ap₂ examined c.asked-2.ensures c.one_gate-2.ensures ∙ conjunction_examined in
+    let d : c.examine-parity.result ≡ Ok (2, 1) = c.examine-parity.ensures.answer ∙ ap₂ examined c.asked-3.ensures c.three_gates-three.ensures ∙ parity_examined in
+    let e : c.examine-parity_in_one_level.result ≡ Err LevelAboveLimit = c.examine-parity_in_one_level.ensures.answer ∙ ap₂ examined c.asked-4.ensures c.three_gates-three.ensures ∙ parity_refused in
+    let f : c.normalise-normal_form.result ≡ Ok (one_gate 2 4 7 9) = c.normalise-normal_form.ensures.answer ∙ ap (normalised_answer 3) c.one_gate-3.ensures ∙ normal_form in
+    let g : c.representative-class_of_constant_0.result ≡ Ok 0x0000 = c.representative-class_of_constant_0.ensures.answer ∙ ap Ok constant_0_class in
+    let h : c.representative-class_of_constant_1.result ≡ Ok 0x0000 = c.representative-class_of_constant_1.ensures.answer ∙ ap Ok constant_1_class in
+    let i : c.representative-class_of_an_input.result ≡ Ok 0x00ff = c.representative-class_of_an_input.ensures.answer ∙ ap Ok input_class in
+    let j : c.representative-class_of_majority.result ≡ Ok 0x033f = c.representative-class_of_majority.ensures.answer ∙ ap Ok majority_class in
     rw (a, b, d, e, f, g, h, i, j)
