@@ -1,5 +1,5 @@
 -- What the calls on networks answer: which refusal, or which network.
-use Rattle.std.specs.Prelude.{ℕ, cond, Result}
+use Rattle.std.specs.Prelude.{ℕ, Result}
 use Rattle.mig.specs.declared.network.Network.{Network}
 use Rattle.mig.specs.declared.refusal.Refusal.{Refusal}
 use Rattle.mig.specs.Networks.{net_of, network_of}

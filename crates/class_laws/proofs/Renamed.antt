@@ -1,5 +1,5 @@
 -- A network with its codes replaced: its values, its uses, its levels.
-use Rattle.std.proofs.Common.{◌≡◌, ℕ, zero, suc, ◌+◌, ◌-◌, ◌*◌, ◌/◌, ◌%◌, ◌^◌, ◌<◌, ◌≤◌, Bool, true, false, cond, eqb, ◌⊎◌, List, [], ◌∷◌, ◌++◌, map, length, get_or, replicate, sym, refl, ap, ◌∙◌, subst, ap₂, inl, inr, arith}
+use Rattle.std.proofs.Common.{◌≡◌, ℕ, ◌+◌, ◌-◌, ◌*◌, ◌/◌, ◌%◌, ◌^◌, ◌<◌, ◌≤◌, Bool, true, false, cond, eqb, ◌⊎◌, List, [], ◌∷◌, ◌++◌, map, length, get_or, replicate, sym, refl, ap, ◌∙◌, subst, ap₂, inl, inr, arith}
 use lib.ListN.{length-map, length-replicate, get_or-replicate}
 use Rattle.std.proofs.lemmas.List.{get_or_append_left, get_or_push, length_push}
 use Rattle.std.proofs.lemmas.Bool.{eq-eqb, ne_eqb, cases_lt, cases_eq}
@@ -7,7 +7,7 @@ use Rattle.mig.specs.declared.network.Gate.{Gate}
 use Rattle.mig.specs.declared.question.Limits.{Limits}
 use Rattle.mig.specs.Networks.{Net, Kind, size, node, complemented, value_at, gate_value, walk, output_value, GateBelow, Ordered, Formed, names, uses_in, uses, bits, levels}
 use Rattle.mig.specs.Tables.{bit_at}
-use Rattle.mig.specs.Questions.{question_of, input_bits, row_start, level, Meets}
+use Rattle.mig.specs.Questions.{question_of, row_start, level, Meets}
 use Rattle.mig_laws.proofs.RowBits.{bits_lawful, length-input_bits}
 use Rattle.mig_laws.proofs.Walks.{length-walk}
 use Rattle.class_laws.specs.Renaming.{differ, complement_by, rename, rename_gate, rename_net, SameGates}

@@ -1,5 +1,5 @@
 -- Prefixes, and prefixes with one gate more.
-use Rattle.std.proofs.Common.{◌≡◌, ℕ, ◌+◌, ◌*◌, ◌<◌, List, [], ◌∷◌, ◌++◌, length, set, sym, ap, ◌∙◌, subst, arith, length-set}
+use Rattle.std.proofs.Common.{◌≡◌, ℕ, ◌+◌, ◌*◌, ◌<◌, [], ◌∷◌, ◌++◌, length, set, sym, ap, ◌∙◌, subst, arith, length-set}
 use lib.Bits.{bit_xor}
 use Rattle.std.proofs.lemmas.List.{length_push}
 use Rattle.mig.specs.declared.network.Gate.{Gate}

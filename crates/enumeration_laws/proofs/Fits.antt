@@ -1,13 +1,11 @@
 -- A gate as the last one, told by its column.
-use Rattle.std.proofs.Common.{◌≡◌, ℕ, ◌+◌, ◌-◌, ◌*◌, ◌%◌, ◌^◌, ◌<◌, ◌≤◌, Bool, true, false, cond, not, eqb, ◌⊎◌, List, [], ◌∷◌, ◌++◌, length, Some, None, Decides, sym, refl, ap, ◌∙◌, subst, inl, inr, arith, pow_pos, pow_mono}
-use lib.Bits.{bit_and}
+use Rattle.std.proofs.Common.{◌≡◌, ℕ, ◌+◌, ◌*◌, ◌%◌, ◌^◌, ◌<◌, Bool, true, false, cond, not, eqb, ◌⊎◌, List, [], ◌∷◌, ◌++◌, length, Some, None, Decides, sym, refl, ap, ◌∙◌, subst, inl, inr, arith, pow_pos, pow_mono}
 use Rattle.std.proofs.lemmas.Nat.{and_mask}
 use Rattle.std.proofs.lemmas.Bool.{cases_Bool, cases_eq, both_ways}
 use Rattle.std.proofs.lemmas.Bool.Decides.{Decides-at}
 use Rattle.mig.specs.declared.network.Gate.{Gate}
 use Rattle.mig.specs.declared.question.Question.{Question}
 use Rattle.mig.specs.Networks.{Net, node, walk, gate_value, bits, output_value}
-use Rattle.mig.specs.Tables.{bit_at}
 use Rattle.mig.specs.Columns.{column_of, input_columns}
 use Rattle.mig.specs.Questions.{Valid, Meets, Computes, row_start}
 use Rattle.mig.specs.Rules.{is_computed}

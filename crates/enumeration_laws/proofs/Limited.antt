@@ -1,11 +1,11 @@
 -- Levels and fan-outs, as the calls answer them, decide whether the limits are kept.
-use Rattle.std.proofs.Common.{◌≡◌, ℕ, ◌+◌, ◌<◌, ◌≤◌, true, false, leb, Ok, Err, Decides, sym, ap, ◌∙◌, arith}
+use Rattle.std.proofs.Common.{◌≡◌, ℕ, ◌+◌, ◌<◌, ◌≤◌, false, leb, Ok, Err, Decides, sym, ap, ◌∙◌, arith}
 use Rattle.std.proofs.lemmas.Bool.{false≢true, leb-true, le-leb, ltb-false, not-true}
 use Rattle.mig.specs.declared.network.Network.{Network}
 use Rattle.mig.specs.declared.question.Limits.{Limits}
 use Rattle.mig.specs.declared.refusal.Refusal.{Refusal}
-use Rattle.mig.specs.Networks.{Net, net_of, size, uses, greatest_fan_out, Formed}
-use Rattle.mig.specs.Questions.{Within, level}
+use Rattle.mig.specs.Networks.{Net, net_of, size, uses, greatest_fan_out}
+use Rattle.mig.specs.Questions.{level}
 use Rattle.mig.specs.Rules.{unless_refused, form_refusal}
 use Rattle.enumeration_laws.specs.Limits.{InLimits}
 use Rattle.mig_laws.proofs.Decisions.{decides_greatest}

@@ -8,7 +8,7 @@ use Rattle.mig.specs.Networks.{Net, GateBelow, Ordered, size, node}
 use Rattle.mig.specs.Questions.{Meets}
 use Rattle.mig_laws.proofs.Walks.{ordered_right}
 use Rattle.mig_laws.proofs.Tables.{one, one_small}
-use Rattle.canonical_laws.specs.Canonical.{Canonical, CanonicalGate, CanonicalInstead, AllCanonical}
+use Rattle.canonical_laws.specs.Canonical.{CanonicalGate, CanonicalInstead, AllCanonical}
 use Rattle.canonical_laws.proofs.Exist.{canonical_exists}
 use Rattle.canonical_laws.proofs.Pruning.{canonical_right, last_names_newest}
 use Rattle.gate_order.specs.declared.Candidate.{Candidate}

@@ -1,10 +1,10 @@
 -- Gates that no network extends, told by their level and their fan-outs.
-use Rattle.std.proofs.Common.{◌≡◌, ℕ, ◌+◌, ◌-◌, ◌*◌, ◌/◌, ◌<◌, ◌≤◌, false, eqb, ◌⊎◌, List, [], ◌∷◌, ◌++◌, length, get_or, replicate, sym, refl, ap, ◌∙◌, subst, inl, inr, arith, length-append}
+use Rattle.std.proofs.Common.{◌≡◌, ℕ, ◌+◌, ◌-◌, ◌*◌, ◌/◌, ◌<◌, ◌≤◌, false, eqb, ◌⊎◌, List, length, get_or, replicate, sym, ap, ◌∙◌, subst, inl, inr, arith, length-append}
 use lib.ListN.{length-replicate}
 use Rattle.std.proofs.lemmas.Bool.{cases_eq, cases_lt, ne_eqb}
 use Rattle.mig.specs.declared.network.Gate.{Gate}
 use Rattle.mig.specs.declared.question.Question.{Question}
-use Rattle.mig.specs.Networks.{Net, Ordered, Formed, size, node, walk, levels, names, uses_in, uses}
+use Rattle.mig.specs.Networks.{Net, Ordered, Formed, size, node, walk, levels, uses}
 use Rattle.mig.specs.Questions.{Valid, Within, level}
 use Rattle.mig_laws.proofs.Levels.{level_bound}
 use Rattle.mig_laws.proofs.Nodes.{level_at}

@@ -1,9 +1,9 @@
 -- Networks without gates.
-use Rattle.std.proofs.Common.{◌≡◌, ℕ, ◌+◌, ◌*◌, ◌<◌, ◌≤◌, true, false, List, [], ◌∷◌, length, get_or, sym, refl, ap, ◌∙◌, arith}
+use Rattle.std.proofs.Common.{◌≡◌, ℕ, ◌+◌, ◌*◌, ◌<◌, true, false, List, [], length, get_or, sym, ap, ◌∙◌, arith}
 use Rattle.std.proofs.lemmas.Bool.{both_ways}
 use Rattle.mig.specs.declared.question.Question.{Question}
-use Rattle.mig.specs.Networks.{Net, Ordered, Formed, size, walk, value_at}
-use Rattle.mig.specs.Questions.{Valid, Meets, level}
+use Rattle.mig.specs.Networks.{Ordered, size, value_at}
+use Rattle.mig.specs.Questions.{Valid, Meets}
 use Rattle.mig.specs.Columns.{column_of}
 use Rattle.mig_laws.proofs.Levels.{level_bound}
 use Rattle.enumeration_laws.specs.Columns.{node_columns, CodeColumns, is_table}

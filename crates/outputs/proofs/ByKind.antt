@@ -1,6 +1,6 @@
 -- The walk of each kind, in the words of the definitions.
 use Rattle.std.proofs.Common.{◌≡◌, ℕ, zero, suc, ◌+◌, ◌≤◌, min, max, Bool, List, ◌∷◌, map, take, replicate, refl, ap, ◌∙◌, arith}
-use Rattle.mig.specs.Networks.{Net, size, bits, levels, output_value}
+use Rattle.mig.specs.Networks.{Net, size, levels, output_value}
 use Rattle.mig.specs.Tables.{bit_at, table_from}
 use Rattle.mig.specs.Columns.{column_of, input_columns}
 use Rattle.mig.specs.Questions.{input_bits, row_bit, level}

@@ -1,7 +1,6 @@
-use Rattle.std.proofs.Common.{◌≡◌, ℕ, ◌≤◌, true, Some, None, Ok, sym, refl, ap, ◌∙◌, subst, arith}
+use Rattle.std.proofs.Common.{◌≡◌, ℕ, true, sym, refl, ◌∙◌, subst, arith}
 use Rattle.std.proofs.lemmas.Result.{err_from_is_err_and}
-use Rattle.mig.specs.declared.network.Network.{Network}
-use Rattle.mig.specs.Networks.{net_of, network_of}
+use Rattle.mig.specs.Networks.{net_of}
 use Rattle.mig.specs.Questions.{Meets}
 use Rattle.mig.specs.Normal.{Normal}
 use Rattle.mig.specs.Rules.{network_refusal, examine_refusal}

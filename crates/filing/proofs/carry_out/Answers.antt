@@ -9,7 +9,7 @@ use Rattle.mig_laws.proofs.Refusals.{none_from_ok, some_from_err, inputs_not_ref
 use Rattle.class_laws.specs.Lifting.{cut_net}
 use Rattle.class_laws.specs.Ways.{Way, inverse, carry_net}
 use Rattle.classes.specs.Reach.{way_of}
-use Rattle.filing.specs.Filing.{LeadsToClass, given_by, class_question}
+use Rattle.filing.specs.Filing.{LeadsToClass, given_by}
 use Rattle.filing.proofs.Carried.{leads, given_meets, given_form}
 use Rattle.filing.proofs.Placed.{Holding, not_refused, carried_place, cut_place, normalised_place}
 use Rattle.filing.proofs.carry_out.Goals as goal

@@ -1,4 +1,4 @@
-use Rattle.std.proofs.Common.{◌≡◌, true, None, Ok, sym, refl, ap, ◌∙◌, subst, arith}
+use Rattle.std.proofs.Common.{◌≡◌, true, None, Ok, sym, refl, ap, ◌∙◌, subst}
 use Rattle.mig.specs.Networks.{net_of}
 use Rattle.mig.specs.Questions.{question_of, Meets}
 use Rattle.mig.specs.Rules.{network_refusal}

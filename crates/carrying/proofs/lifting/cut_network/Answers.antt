@@ -7,7 +7,7 @@ use Rattle.std.proofs.lemmas.Bool.{cond-false, le-ltb}
 use Rattle.mig_laws.proofs.Refusals.{none_from_ok}
 use Rattle.mig_laws.proofs.Places.{net_of-network_of}
 use Rattle.class_laws.specs.Renaming.{SameGates}
-use Rattle.class_laws.specs.Lifting.{raise_net, cut_net}
+use Rattle.class_laws.specs.Lifting.{cut_net}
 use Rattle.class_laws.proofs.Lifted.{cutting, cut_same_gates, raise_cut}
 use Rattle.carrying.proofs.Places.{nodes_below_12}
 use Rattle.carrying.proofs.lifting.cut_network.Goals as goal

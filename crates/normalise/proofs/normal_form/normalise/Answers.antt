@@ -1,7 +1,7 @@
 use Rattle.std.proofs.Common.{◌≡◌, ℕ, true, None, Ok, refl, ap, ◌∙◌, arith}
 use Rattle.mig.specs.declared.network.Network.{Network}
 use Rattle.mig.specs.Networks.{net_of, network_of, size}
-use Rattle.mig.specs.Normal.{complements, first_normalised, normalised}
+use Rattle.mig.specs.Normal.{first_normalised, normalised}
 use Rattle.mig.specs.Rules.{form_refusal}
 use Rattle.mig_laws.proofs.Refusals.{none_from_ok}
 use Rattle.normalise.proofs.Stages.{stage_size, stage_places, stage_gate, stage_turned, stage_kept, result}

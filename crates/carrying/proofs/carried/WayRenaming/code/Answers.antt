@@ -1,6 +1,5 @@
-use Rattle.std.proofs.Common.{◌≡◌, ℕ, suc, ◌+◌, ◌-◌, ◌*◌, ◌/◌, ◌%◌, ◌^◌, sym, refl, ap, ◌∙◌, ap₂, inl, inr, arith}
-use Rattle.mig.specs.Tables.{bit_at}
-use Rattle.mig_laws.proofs.Tables.{one, parity}
+use Rattle.std.proofs.Common.{◌≡◌, ℕ, suc, ◌+◌, ◌-◌, ◌*◌, ◌/◌, ◌%◌, ◌^◌, sym, ap, ◌∙◌, ap₂, inl, inr, arith}
+use Rattle.mig_laws.proofs.Tables.{parity}
 use Rattle.class_laws.specs.Ways.{carried_code}
 use Rattle.class_laws.proofs.Carried.{carried_low, carried_high}
 use Rattle.carrying.proofs.carried.WayRenaming.code.Goals as goal

@@ -1,4 +1,4 @@
-use Rattle.std.proofs.Common.{◌≡◌, ℕ, ap, ◌∙◌, subst, arith}
+use Rattle.std.proofs.Common.{◌≡◌, ℕ, ap, ◌∙◌}
 use Rattle.mig.specs.Tables.{bit_at, table_from}
 use Rattle.class_laws.specs.Ways.{Way, inverse, source, carry_table, carry_net}
 use Rattle.class_laws.proofs.Carried.{returning, carried_back}
