@@ -6,7 +6,9 @@ use gate_order::Candidate;
 use mig::Gate;
 
 // The first candidate with a third node.
-pub(crate) fn first_naming(third: usize) -> Candidate {
+pub(crate) fn first_naming(third: usize) -> Candidate
+    ensures { result ≡ first_naming third }
+{
     Candidate {
         first: 0,
         second: 1,
@@ -16,7 +18,12 @@ pub(crate) fn first_naming(third: usize) -> Candidate {
 }
 
 // The first candidate to try behind `count` gates: where one gate is left, it names the newest.
-pub(crate) fn first_candidate(inputs: usize, count: usize, left: u8) -> Candidate {
+pub(crate) fn first_candidate(inputs: usize, count: usize, left: u8) -> Candidate
+    requires { (inputs ≤ 4) × (count ≤ 4) }
+    ensures first { result ≡ first_naming result.third }
+    ensures third { (2 ≤ result.third) × (result.third ≤ 8) }
+    ensures none_before { (result.third ≡ 2) ⊎ ((left ≡ 1) × (1 ≤ count) × (result.third ≡ inputs + count)) }
+{
     if left == 1 && count > 0 && inputs + count > 2 {
         first_naming(inputs + count)
     } else {
@@ -25,7 +32,14 @@ pub(crate) fn first_candidate(inputs: usize, count: usize, left: u8) -> Candidat
 }
 
 // The candidate behind this one, where `nodes` nodes stand.
-pub(crate) fn next_candidate(c: Candidate, nodes: usize) -> Candidate {
+pub(crate) fn next_candidate(c: Candidate, nodes: usize) -> Candidate
+    requires candidate { IsCandidate nodes c }
+    requires third { c.third < 15 }
+    ensures candidate { IsCandidate nodes result }
+    ensures third { result.third ≤ c.third + 1 }
+    ensures rises { rank c < rank result }
+    ensures none_between { NoneBetween nodes c result }
+{
     if c.third >= nodes {
         return first_naming(c.third + 1);
     }
@@ -57,7 +71,12 @@ pub(crate) fn next_candidate(c: Candidate, nodes: usize) -> Candidate {
 }
 
 // The gate of a candidate, where `nodes` nodes stand.
-pub(crate) fn candidate_gate(c: Candidate, inputs: usize, nodes: usize) -> Gate {
+pub(crate) fn candidate_gate(c: Candidate, inputs: usize, nodes: usize) -> Gate
+    requires inputs { inputs ≤ 4 }
+    requires candidate { IsCandidate nodes c }
+    requires third { c.third < 15 }
+    ensures { result ≡ gate_of inputs nodes c }
+{
     if c.third >= nodes {
         return Gate {
             first: 0,

@@ -1,5 +1,5 @@
 // The canonical networks that begin with given gates.
-ghost use Rattle.std.specs.Prelude.{◌≡◌, ◌+◌, ◌≤◌};
+ghost use Rattle.std.specs.Prelude.{◌+◌, ◌≤◌};
 ghost use Rattle.mig.specs.Questions.{Valid};
 ghost use Rattle.enumeration_laws.specs.Placed.{placed, IsPrefix, FoundOr};
 ghost use Rattle.enumeration_laws.specs.Prefixes.{NoneExtends};
@@ -13,7 +13,13 @@ use mig::{Network, Question};
 
 // Whether a canonical network meets the question that begins with the prefix and has more gates, at most `left`; if so, a
 // network that meets it is in the place.
-pub(crate) fn extend(question: Question, prefix: Prefix, left: u8, place: &mut Network) -> bool {
+pub(crate) fn extend(question: Question, prefix: Prefix, left: u8, place: &mut Network) -> bool
+    requires question { Valid question }
+    requires prefix { IsPrefix question.inputs prefix }
+    requires some { 1 ≤ left }
+    requires few { prefix.network.count + left ≤ 4 }
+    ensures { FoundOr (NoneExtends question (placed prefix) left) question (prefix.network.count + left) place.old place.new result }
+{
     if !below_limits(question, &prefix.network) {
         return false;
     }

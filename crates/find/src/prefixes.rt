@@ -20,7 +20,12 @@ pub(crate) struct NextGate {
 }
 
 // The prefix without gates.
-pub(crate) fn empty_prefix(inputs: u8) -> Prefix {
+pub(crate) fn empty_prefix(inputs: u8) -> Prefix
+    requires { inputs ≤ 4 }
+    ensures prefix { IsPrefix inputs result }
+    ensures gates { placed result ≡ [] }
+    ensures count { result.network.count ≡ 0 }
+{
     Prefix {
         network: without_gates(2 * inputs),
         columns: start_columns(),
@@ -28,7 +33,15 @@ pub(crate) fn empty_prefix(inputs: u8) -> Prefix {
 }
 
 // The gate of a candidate behind the prefix.
-pub(crate) fn next_gate(inputs: u8, prefix: &Prefix, candidate: Candidate) -> NextGate {
+pub(crate) fn next_gate(inputs: u8, prefix: &Prefix, candidate: Candidate) -> NextGate
+    requires inputs { inputs ≤ 4 }
+    requires few { prefix.now.network.count < 4 }
+    requires prefix { IsPrefix inputs prefix.now }
+    requires candidate { IsCandidate (inputs + 1 + prefix.now.network.count) candidate }
+    requires third { candidate.third < inputs + 1 + prefix.now.network.count + prefix.now.network.count }
+    ensures gate { result.gate ≡ gate_of inputs (inputs + 1 + prefix.now.network.count) candidate }
+    ensures column { result.column ≡ gate_column inputs (placed prefix.now) result.gate }
+{
     let gate = candidate_gate(
         candidate,
         inputs as usize,
@@ -41,7 +54,10 @@ pub(crate) fn next_gate(inputs: u8, prefix: &Prefix, candidate: Candidate) -> Ne
 }
 
 // The columns with those of the two codes of a node.
-fn with_column(mut columns: [u16; 24], node: u8, column: u16) -> [u16; 24] {
+fn with_column(mut columns: [u16; 24], node: u8, column: u16) -> [u16; 24]
+    requires { node < 12 }
+    ensures { result ≡ set (set columns (2 * node) column) (2 * node + 1) (bit_xor column 65535) }
+{
     let code = 2 * node as usize;
     columns[code] = column;
     columns[code + 1] = column ^ 0xffff;
@@ -49,7 +65,15 @@ fn with_column(mut columns: [u16; 24], node: u8, column: u16) -> [u16; 24] {
 }
 
 // The prefix with one gate more.
-pub(crate) fn longer(inputs: u8, prefix: &Prefix, next: NextGate) -> Prefix {
+pub(crate) fn longer(inputs: u8, prefix: &Prefix, next: NextGate) -> Prefix
+    requires inputs { inputs ≤ 4 }
+    requires few { prefix.now.network.count < 4 }
+    requires prefix { IsPrefix inputs prefix.now }
+    requires column { next.column ≡ gate_column inputs (placed prefix.now) next.gate }
+    ensures prefix { IsPrefix inputs result }
+    ensures gates { placed result ≡ placed prefix.now ++ next.gate ∷ [] }
+    ensures count { result.network.count ≡ prefix.now.network.count + 1 }
+{
     let node = inputs + 1 + prefix.network.count;
     Prefix {
         network: with_gate(&prefix.network, next.gate, 2 * node),

@@ -1,4 +1,4 @@
-use Rattle.std.proofs.Common.{◌≡◌, ℕ, ◌+◌, ◌-◌, sym, refl, ◌∙◌, subst, arith}
+use Rattle.std.proofs.Common.{◌≡◌, ◌+◌, ◌-◌, sym, refl, ◌∙◌, subst, arith}
 use Rattle.std.proofs.lemmas.Bool.Decides.{not_from_Decides}
 use Rattle.mig.specs.Networks.{Formed}
 use Rattle.mig.specs.Questions.{Within}
@@ -13,14 +13,14 @@ use Rattle.enumeration_laws.proofs.Pruned.{none_extends_beyond}
 use Rattle.find.proofs.extend.+extend.Goals as goal
 use Rattle.find.proofs.extend.+extend.Goals.{else-left-gt1-via-then-left-gt1+else-extend, else-left-gt1-via-else-left-gt1}
 
-pub returns-then-not-below-limits : goal.returns-then-not-below-limits
-returns-then-not-below-limits t c =
+pub returns-then-not-below_limits : goal.returns-then-not-below_limits
+returns-then-not-below_limits t c =
     let q = c.args.question in
     let prefix = c.args.prefix in
     let net = prefix_net q.inputs prefix c.requires.prefix in (
       refl,
       none_extends_beyond q (placed prefix) c.args.left c.requires.question
-          (λ formed within. not_from_Decides {P = InLimits q.inputs (one_lower q.limits) prefix.network} c.below-limits.result c.below-limits.ensures c.if-not-below-limits.true
+          (λ formed within. not_from_Decides {P = InLimits q.inputs (one_lower q.limits) prefix.network} c.below_limits.result c.below_limits.ensures c.if-not-below_limits.true
           (c.requires.question.inputs, omega arith, subst (Formed q.inputs) (sym net) formed, subst (Within q.inputs (one_lower q.limits)) (sym net) within)),
     )
 
@@ -29,8 +29,8 @@ loop-candidate-init t c =
     let q = c.args.question in
     let prefix = c.args.prefix in
     let count = prefix.network.count in
-    let first = c.first-candidate-candidate.ensures in
-    let third = c.first-candidate-candidate.result.third in (
+    let first = c.first_candidate-candidate.ensures in
+    let third = c.first_candidate-candidate.result.third in (
       subst (IsCandidate (q.inputs + 1 + count)) (sym first.first) (first_is_candidate (q.inputs + 1 + count) third (omega arith)),
       omega arith,
       refl,
@@ -45,9 +45,9 @@ loop-candidate-preserved t c =
     let prefix = c.args.prefix in
     let k = q.inputs + 1 + prefix.network.count in
     let inv = c.loop-candidate.invariant in
-    let g = c.next-gate-next.result.gate in
-    let ended = c.if-end-with.ensures in
-    let next = c.next-candidate-candidate.ensures in
+    let g = c.next_gate-next.result.gate in
+    let ended = c.if-end_with.ensures in
+    let next = c.next_candidate-candidate.ensures in
     let after : (c.else-left-gt1.place ≡ c.args.place.now) × NoneGoesOn q (placed prefix) left g =
     elim c.else-left-gt1.branch [
       | else-left-gt1-via-then-left-gt1+else-extend w ↦
@@ -61,8 +61,8 @@ loop-candidate-preserved t c =
       next.candidate,
       omega (arith, next.third),
       after.0,
-      none_before_next q (placed prefix) left k c.loop-candidate.candidate c.next-candidate-candidate.result inv.0 (omega arith) next.none_between inv.3
-          (subst (NoneGoesOn q (placed prefix) left) c.next-gate-next.ensures.gate after.1),
+      none_before_next q (placed prefix) left k c.loop-candidate.candidate c.next_candidate-candidate.result inv.0 (omega arith) next.none_between inv.3
+          (subst (NoneGoesOn q (placed prefix) left) c.next_gate-next.ensures.gate after.1),
     )
 
 pub returns : goal.returns

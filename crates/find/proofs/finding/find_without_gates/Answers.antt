@@ -1,4 +1,4 @@
-use Rattle.std.proofs.Common.{◌≡◌, sym, refl, ◌∙◌, arith}
+use Rattle.std.proofs.Common.{sym, ◌∙◌, arith}
 use Rattle.enumeration_laws.specs.Prefixes.{without_gates}
 use Rattle.enumeration_laws.proofs.WithoutGates.{meets_without_gates, none_without_gates}
 use Rattle.enumeration_laws.proofs.Found.{holds_written}
