@@ -1,6 +1,6 @@
 // The layer: a search that stands over another.
 ghost use Rattle.std.specs.Prelude.{◌≡◌, ◌≤◌};
-ghost use Rattle.std.proofs.Common.{rules, arith};
+ghost use Rattle.std.proofs.Common.{rules};
 
 use crate::bounds::beyond_bounds;
 use mig::{Network, Question, Refusal};
@@ -31,9 +31,9 @@ impl<S: Search> Search for BoundLayer<S> {
 
     ghost count = { λ s. s.count };
 
-    ghost reach_at_most_seven = { first_of (Prim.search rules, Prim.grind (arith, Self.row.coded.inj)) };
+    ghost reach_at_most_seven = { Prim.search rules };
 
-    ghost count_stops = { first_of (Prim.search rules, Prim.grind (arith, Self.row.coded.inj)) };
+    ghost count_stops = { Prim.search rules };
 
     fn reach(&self) -> u8 {
         self.below.reach()

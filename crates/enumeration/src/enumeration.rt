@@ -1,6 +1,6 @@
 // The enumeration as a search.
 ghost use Rattle.std.specs.Prelude.{◌≡◌, ◌≤◌};
-ghost use Rattle.std.proofs.Common.{rules, arith};
+ghost use Rattle.std.proofs.Common.{rules};
 
 use find::find_network;
 use mig::{Network, Question, Refusal};
@@ -29,9 +29,9 @@ impl Search for Enumeration {
 
     ghost count = { λ s. s.count };
 
-    ghost reach_at_most_seven = { first_of (Prim.search rules, Prim.grind (arith, Self.row.coded.inj)) };
+    ghost reach_at_most_seven = { Prim.search rules };
 
-    ghost count_stops = { first_of (Prim.search rules, Prim.grind (arith, Self.row.coded.inj)) };
+    ghost count_stops = { Prim.search rules };
 
     fn reach(&self) -> u8 {
         4

@@ -2,7 +2,7 @@
 #![tactic(auto)]
 
 ghost use Rattle.std.specs.Prelude.{◌≡◌, ◌≤◌, max, leb};
-ghost use Rattle.std.proofs.Common.{rules, arith};
+ghost use Rattle.std.proofs.Common.{rules};
 
 use mig::{Network, Question, Refusal};
 use search::{Search, check_ask};
@@ -46,9 +46,9 @@ impl<A: Search, B: Search> Search for Split<A, B> {
 
     ghost count = { λ s. s.count };
 
-    ghost reach_at_most_seven = { first_of (Prim.search rules, Prim.grind (arith, Self.row.coded.inj)) };
+    ghost reach_at_most_seven = { Prim.search rules };
 
-    ghost count_stops = { first_of (Prim.search rules, Prim.grind (arith, Self.row.coded.inj)) };
+    ghost count_stops = { Prim.search rules };
 
     fn reach(&self) -> u8 {
         self.first.reach().max(self.second.reach())

@@ -1,10 +1,10 @@
 // The three value kinds: the bit of one row, the column of sixteen rows, the level.
+ghost use Rattle.std.specs.Prelude.{ℕ};
 ghost use Rattle.mig.specs.Networks.{bits};
 ghost use Rattle.value_kinds.specs.Kinds.{columns, capped_levels};
 ghost use Rattle.std.proofs.Common.{rules};
 ghost use Rattle.std.proofs.Math.Path.{ap};
 ghost use Rattle.mig_laws.proofs.Columns.{column_lawful};
-ghost use Rattle.value_kinds.specs.ColumnKindLemmas.{column};
 
 use crate::value_kind::ValueKind;
 
@@ -41,11 +41,13 @@ impl ValueKind for bool {
 }
 
 impl ValueKind for Column {
+    ghost use Rattle.value_kinds.specs.declared.kinds.Column.{Column};
+
     ghost kind = { columns };
 
-    ghost complement_twice = { unfold column in λ x. ap column ((column_lawful 16).twice x.rows) };
+    ghost complement_twice = { λ x. ap {B = Column} (λ (n : ℕ). record { rows = n }) ((column_lawful 16).twice x.rows) };
 
-    ghost complement_all = { unfold column in λ x y z. ap column ((column_lawful 16).all x.rows y.rows z.rows) };
+    ghost complement_all = { λ x y z. ap {B = Column} (λ (n : ℕ). record { rows = n }) ((column_lawful 16).all x.rows y.rows z.rows) };
 
     fn constant() -> Column {
         Column { rows: 0 }
