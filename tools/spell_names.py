@@ -94,7 +94,8 @@ def renamings():
     new = {n: spelled(n, functions) for n in names}
     behind = {f: snake(f.replace("-", "_")) for f in fields} | {label.replace("_", "-"): label for label in labels}
     for name in behind:
-        new.setdefault(name, behind[name])
+        if name in fields or name not in new:
+            new[name] = behind[name]
     return {a: b for a, b in new.items() if a != b}, {a: b for a, b in behind.items() if a != b}
 
 

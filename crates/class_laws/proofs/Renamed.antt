@@ -218,13 +218,13 @@ stay false x = refl
 pub size-rename : (σ : ℕ → ℕ) (o : ℕ) (net : Net) → size (rename_net σ o net) ≡ size net
 size-rename σ o net = length-map net.gates (rename_gate σ)
 
-pub uses_rename_net
+pub uses-rename_net
     : {m m' : ℕ} {σ : ℕ → ℕ}
     → Renumbering m m' σ
     → (o : ℕ) (net : Net) (j : ℕ)
     → m ≤ j
     → uses ((j - m) + m') (rename_net σ o net) ≡ uses j net
-uses_rename_net {m} {m'} {σ} w o net j a =
+uses-rename_net {m} {m'} {σ} w o net j a =
     ap₂ (λ (x y : ℕ). x + y) (uses-rename w net.gates j a)
     (ap (λ (x : ℕ). cond (eqb x ((j - m) + m')) 1 0) (complement_by-node o (rename σ net.output))
     ∙ names-rename w j net.output a
@@ -291,11 +291,11 @@ renamed_same_gates n n' {σ} w o net h =
       formed = renamed_formed n n' w o net h;
       gates = size-rename σ o net;
       level = renamed_level n n' w o net h;
-      gate-levels = renamed_gate_level n n' w o net h;
+      gate_levels = renamed_gate_level n n' w o net h;
       fan_outs =
           λ i.
           let there : (n + 1 + i - (n + 1)) + (n' + 1) ≡ n' + 1 + i = omega arith in
-          ap (λ (j : ℕ). uses j (rename_net σ o net)) (sym there) ∙ uses_rename_net w o net (n + 1 + i) (omega arith);
+          ap (λ (j : ℕ). uses j (rename_net σ o net)) (sym there) ∙ uses-rename_net w o net (n + 1 + i) (omega arith);
     }
 
 rename_by : (τ : ℕ → ℕ) (o c : ℕ) → rename τ (complement_by o c) ≡ complement_by o (rename τ c)
@@ -360,7 +360,7 @@ transfer {n} {n'} {f} {f'} {o} {σ} {row} limits net p h =
             let i = (j - (n' + 1)) + (n + 1) in
             let back : (i - (n + 1)) + (n' + 1) ≡ j = omega arith in
             let e : uses j (rename_net σ o net) ≡ uses i net =
-            ap (λ (x : ℕ). uses x (rename_net σ o net)) (sym back) ∙ uses_rename_net w o net i (omega arith) in
+            ap (λ (x : ℕ). uses x (rename_net σ o net)) (sym back) ∙ uses-rename_net w o net i (omega arith) in
             subst (λ (x : ℕ). x ≤ limits.fan_out) (sym e) (h.within.fan_outs i (omega arith) (omega (arith, size-rename σ o net)));
       };
     }

@@ -30,6 +30,6 @@ pub record SameGates (n m : ℕ) (net other : Net) : Type 0 where
   pub formed : Formed m other
   pub gates : size other ≡ size net
   pub level : level m other ≡ level n net
-  pub gate-levels : (i : ℕ) → i < size net
+  pub gate_levels : (i : ℕ) → i < size net
       → slice_index (walk levels (replicate (m + 1) 0) other.gates) (m + 1 + i) ≡ slice_index (walk levels (replicate (n + 1) 0) net.gates) (n + 1 + i)
   pub fan_outs : (i : ℕ) → uses (m + 1 + i) other ≡ uses (n + 1 + i) net

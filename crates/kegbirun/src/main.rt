@@ -12,6 +12,7 @@ use commands::parse;
 use std::env;
 use std::fs::File;
 use std::io::{BufRead, BufReader};
+use std::process::ExitCode;
 
 // The answer to one line; none where the line has no command.
 fn answer_line(rt: &HostRuntime, number: u64, bytes: &[u8]) -> anyhow::Result<()> {
@@ -55,12 +56,12 @@ fn run(rt: &HostRuntime) -> anyhow::Result<()> {
     }
 }
 
-fn main(rt: HostRuntime) -> anyhow::Result<()> {
+fn main(rt: HostRuntime) -> ExitCode {
     match run(&rt) {
-        Ok(()) => Ok(()),
+        Ok(()) => ExitCode::SUCCESS,
         Err(why) => {
-            eprintln!(rt; "kegbirun: {why}")?;
-            Err(why)
+            let _said = eprintln!(rt; "kegbirun: {why}");
+            ExitCode::FAILURE
         }
     }
 }
