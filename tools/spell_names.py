@@ -23,6 +23,7 @@ LIBRARY = {"length", "map", "append", "get_or", "take", "drop", "replicate", "ma
 CHOSEN = {
     "first-normalised": "first_normalised_lem",
     "greatest-fan-out": "greatest_fan_out_lem",
+    "gate-levels": "gate_levels",
     "least-of": "least_of_lem",
     "row-bit": "bit_at_mod",
     "start-columns": "start_columns_lem",
@@ -94,8 +95,7 @@ def renamings():
     new = {n: spelled(n, functions) for n in names}
     behind = {f: snake(f.replace("-", "_")) for f in fields} | {label.replace("_", "-"): label for label in labels}
     for name in behind:
-        if name in fields or name not in new:
-            new[name] = behind[name]
+        new.setdefault(name, behind[name])
     return {a: b for a, b in new.items() if a != b}, {a: b for a, b in behind.items() if a != b}
 
 
