@@ -9,6 +9,7 @@ use mig::{Question, Refusal};
 use support::support;
 
 // Whether the table depends on more inputs than `gates` gates or the depth limit allow.
+#[tactic(auto, using(crate::proofs::NoneBeyond::none_beyond))]
 pub fn beyond_bounds(question: &Question, gates: u8) -> Result<bool, Refusal>
     ensures answer { result ≡ unless_refused (question_refusal question.now) (beyond_bounds question.now gates) }
     ensures no_network_beyond_a_bound { beyond_bounds question.now gates ≡ true → NoneWithin question.now gates }

@@ -1,26 +1,28 @@
 // The layer: a search that stands over another.
-ghost use Rattle.std.specs.Prelude.{◌≡◌, ◌≤◌};
+ghost use Rattle.std.specs.Prelude.{◌≡◌};
 ghost use Rattle.std.proofs.Common.{rules};
 
 use crate::bounds::beyond_bounds;
 use mig::{Network, Question, Refusal};
-use search::{Search, check_ask};
+use search::{Count, Search};
 
 // The search below, and how many questions the layer has taken.
 #[derive(Drop)]
 pub struct BoundLayer<S> {
     pub below: S,
-    count: u32,
-    ghost stops: { count ≤ 4294967295 },
+    count: Count,
 }
 
 impl<S> BoundLayer<S> {
     // The layer over a search, before its first question.
     pub fn new(below: S) -> BoundLayer<S>
         ensures below_as_given { result.below ≡ below }
-        ensures count_zero { result.count ≡ 0 }
+        ensures count_zero { result.count.number ≡ 0 }
     {
-        BoundLayer { below, count: 0 }
+        BoundLayer {
+            below,
+            count: Count::new(),
+        }
     }
 }
 
@@ -29,7 +31,7 @@ impl<S: Search> Search for BoundLayer<S> {
 
     ghost need = { λ s. S.Search.need s.below };
 
-    ghost count = { λ s. s.count };
+    ghost count = { λ s. s.count.number };
 
     ghost reach_at_most_seven = { Prim.search rules };
 
@@ -44,10 +46,11 @@ impl<S: Search> Search for BoundLayer<S> {
     }
 
     fn count(&self) -> u32 {
-        self.count
+        self.count.number()
     }
 
     // Beyond the bounds the answer is "none", and the search below is left as it was; else it is asked.
+    // By a rule of the project the place and the words are lent.
     fn ask(
         &mut self,
         question: &Question,
@@ -55,13 +58,12 @@ impl<S: Search> Search for BoundLayer<S> {
         place: &mut Network,
         words: &mut [u32],
     ) -> Result<bool, Refusal> {
-        check_ask(question, gates, self.reach(), self.need(), words.len())?;
-        let found = if beyond_bounds(question, gates)? {
-            false
+        self.check(question, gates, words.len())?;
+        self.count.raise();
+        if beyond_bounds(question, gates)? {
+            Ok(false)
         } else {
-            self.below.ask(question, gates, place, words)?
-        };
-        self.count = self.count.saturating_add(1);
-        Ok(found)
+            self.below.ask(question, gates, place, words)
+        }
     }
 }

@@ -8,20 +8,21 @@ ghost use Rattle.class_laws.specs.Ways.{carried_code, carry_table};
 ghost use Rattle.classes.specs.Reach.{way_of};
 ghost use Rattle.carrying.specs.Answers.{carried_answer};
 
-use crate::renaming::{Renaming, renamed};
-use checks::check_network;
+use crate::renaming::renamed;
 use classes::Way;
 use mig::{Network, Refusal};
 
-impl Renaming for Way {
-    ghost code = { λ w j. carried_code w.order w.mask j };
-
-    fn code(&self, node: u8) -> u8 {
-        if node == 0 || node > 4 {
-            return 2 * node;
+// The code that takes the place of a node by a way.
+fn carried_code(way: Way, node: u8) -> u8
+    requires { node < 12 }
+    ensures { result ≡ carried_code way.order way.mask node }
+{
+    match node {
+        1..=4 => {
+            let input = node - 1;
+            2 * (way.source(input) + 1) + (way.mask >> input) % 2
         }
-        let input = node - 1;
-        2 * (self.source(input) + 1) + (self.mask >> input) % 2
+        _ => 2 * node,
     }
 }
 
@@ -31,6 +32,5 @@ pub fn carry_network(way: Way, network: &Network) -> Result<Network, Refusal>
     ensures meets_the_carried_question_exactly_when_it_meets_the_question { IfOk result (λ m. (table : ℕ) (limits : Limits) → table < 2 ^ 16 → Meets (question_of 4 table limits) (net_of network.now) ↔ Meets (question_of 4 (carry_table (way_of way) table) limits) (net_of m)) }
     ensures keeps_gates_levels_and_fan_outs { IfOk result (λ m. SameGates 4 4 (net_of network.now) (net_of m)) }
 {
-    check_network(4, network)?;
-    Ok(renamed(&way, way.flipped, network))
+    renamed(4, network, way.flipped, |node| carried_code(way, node))
 }

@@ -1,55 +1,15 @@
 // Networks over fewer inputs than four, and over four.
-ghost use Rattle.std.specs.Prelude.{◌≡◌, ℕ, ◌≤◌, ◌↔◌, IfOk};
+ghost use Rattle.std.specs.Prelude.{◌≡◌, ℕ, ◌↔◌, IfOk};
 ghost use Rattle.mig.specs.declared.question.Limits.{Limits};
 ghost use Rattle.mig.specs.Networks.{Net, net_of};
 ghost use Rattle.mig.specs.Questions.{question_of, Meets};
 ghost use Rattle.class_laws.specs.Renaming.{SameGates};
-ghost use Rattle.class_laws.specs.Lifting.{lift_table, raised_code, raise_net, cut_code};
+ghost use Rattle.class_laws.specs.Lifting.{lift_table, raise_net};
 ghost use Rattle.carrying.specs.Answers.{raised_answer, cut_answer};
 
-use crate::renaming::{Renaming, renamed};
-use checks::check_network;
+use crate::renaming::renamed;
+use checks::check_inputs;
 use mig::{Network, Refusal};
-
-// From `inputs` inputs to four.
-#[derive(Clone, Copy)]
-struct Raise {
-    inputs: u8,
-    ghost few: { inputs ≤ 4 },
-}
-
-impl Renaming for Raise {
-    ghost code = { λ s j. raised_code 4 s.inputs j };
-
-    fn code(&self, node: u8) -> u8 {
-        if node <= self.inputs {
-            2 * node
-        } else {
-            2 * (node + (4 - self.inputs))
-        }
-    }
-}
-
-// From four inputs to `inputs`.
-#[derive(Clone, Copy)]
-struct Cut {
-    inputs: u8,
-    ghost few: { inputs ≤ 4 },
-}
-
-impl Renaming for Cut {
-    ghost code = { λ s j. cut_code 4 s.inputs j };
-
-    fn code(&self, node: u8) -> u8 {
-        if node <= self.inputs {
-            2 * node
-        } else if node <= 4 {
-            0
-        } else {
-            2 * (node - (4 - self.inputs))
-        }
-    }
-}
 
 // The network over `inputs` inputs as one over four: its gates are renumbered.
 pub fn raise_network(inputs: u8, network: &Network) -> Result<Network, Refusal>
@@ -57,21 +17,32 @@ pub fn raise_network(inputs: u8, network: &Network) -> Result<Network, Refusal>
     ensures meets_the_lifted_question_exactly_when_it_meets_the_question { IfOk result (λ m. (table : ℕ) (limits : Limits) → Meets (question_of inputs table limits) (net_of network.now) ↔ Meets (question_of 4 (lift_table 4 inputs table) limits) (net_of m)) }
     ensures keeps_gates_levels_and_fan_outs { IfOk result (λ m. SameGates inputs 4 (net_of network.now) (net_of m)) }
 {
-    check_network(inputs, network)?;
-    Ok(renamed(&Raise { inputs }, false, network))
+    let above = 4u8.saturating_sub(inputs);
+    renamed(inputs, network, false, |node| {
+        if node <= inputs {
+            2 * node
+        } else {
+            2 * (node + above)
+        }
+    })
 }
 
-// The network over four inputs as one over `inputs`: inputs above become the constant and keep their complements, and its
-// gates are renumbered.
+// The network over four inputs as one over `inputs`: inputs above become the constant and keep their complements, and
+// its gates are renumbered.
 pub fn cut_network(inputs: u8, network: &Network) -> Result<Network, Refusal>
     ensures answer { result ≡ cut_answer inputs network.now }
     ensures meets_the_question_if_it_meets_the_lifted_one { IfOk result (λ m. (table : ℕ) (limits : Limits) → Meets (question_of 4 (lift_table 4 inputs table) limits) (net_of network.now) → Meets (question_of inputs table limits) (net_of m)) }
     ensures keeps_gates_levels_and_fan_outs { IfOk result (λ m. SameGates 4 inputs (net_of network.now) (net_of m)) }
     ensures raised_networks_come_back { IfOk result (λ m. (net : Net) → net_of network.now ≡ raise_net 4 inputs net → net_of m ≡ net) }
 {
-    if inputs > 4 {
-        return Err(Refusal::InputsAboveFour);
-    }
-    check_network(4, network)?;
-    Ok(renamed(&Cut { inputs }, false, network))
+    check_inputs(inputs)?;
+    renamed(4, network, false, |node| {
+        if node <= inputs {
+            2 * node
+        } else if node <= 4 {
+            0
+        } else {
+            2 * (node - (4 - inputs))
+        }
+    })
 }

@@ -9,15 +9,13 @@ mod tests {
     use outputs::column;
     use std::alloc::Global;
     use std::collections::BTreeSet;
-    use std::process::Abort;
     use std::test::Fail;
 
     // How many representatives the first `tables` tables have.
     fn count(heap: Global, inputs: u8, tables: u32) -> Result<usize, Fail> {
-        let mut seen = BTreeSet::new(heap);
-        for table in 0..tables {
-            seen.insert(representative(inputs, table)?)?;
-        }
+        let seen: BTreeSet<u16> = (0..tables)
+            .map(|table| -> Result<u16, Fail> { Ok(representative(inputs, table)?) })
+            .try_collect(heap)?;
         Ok(seen.len())
     }
 
@@ -62,16 +60,11 @@ mod tests {
 
         // A network over `inputs` inputs, with one to seven gates.
         fn network(&mut self, inputs: u8) -> Network {
-            let empty = Gate {
-                first: 0,
-                second: 0,
-                third: 0,
-            };
-            let mut gates = [empty; 7];
             let count = 1 + self.below(7) % 7;
+            let mut gates = [Gate::default(); 7];
             let mut codes = inputs.saturating_add(1).saturating_mul(2);
-            for i in 0..count as usize {
-                gates[i] = Gate {
+            for gate in gates.iter_mut().take(usize::from(count)) {
+                *gate = Gate {
                     first: self.below(codes),
                     second: self.below(codes),
                     third: self.below(codes),
@@ -87,28 +80,11 @@ mod tests {
 
         // A way.
         fn way(&mut self) -> Way {
-            let order = self.below(24) % 24;
-            let mask = self.below(16) % 16;
-            let flipped = self.below(2) == 1;
             Way {
-                order,
-                mask,
-                flipped,
+                order: self.below(24) % 24,
+                mask: self.below(16) % 16,
+                flipped: self.below(2) == 1,
             }
-        }
-    }
-
-    // The two networks have the same gates and the same output.
-    fn same(rt: &impl Abort, one: &Network, other: &Network) {
-        assert_eq!(rt; one.count, other.count);
-        assert_eq!(rt; one.output, other.output);
-        for (a, b) in one
-            .gates
-            .iter()
-            .zip(other.gates.iter())
-            .take(one.count as usize)
-        {
-            assert_eq!(rt; (a.first, a.second, a.third), (b.first, b.second, b.third));
         }
     }
 
@@ -123,7 +99,7 @@ mod tests {
             assert_eq!(rt; column(4, &carried)?.rows, carry_table(way, table));
             let back = carry_network(way.inverse(), &carried)?;
             assert_eq!(rt; column(4, &back)?.rows, table);
-            same(&rt, &back, &network);
+            assert_eq!(rt; back, network);
         }
         Ok(())
     }
@@ -137,7 +113,7 @@ mod tests {
                 let table = column(inputs, &network)?.rows;
                 let raised = raise_network(inputs, &network)?;
                 assert_eq!(rt; column(4, &raised)?.rows, table);
-                same(&rt, &cut_network(inputs, &raised)?, &network);
+                assert_eq!(rt; cut_network(inputs, &raised)?, network);
             }
         }
         Ok(())

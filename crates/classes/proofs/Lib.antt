@@ -1,3 +1,0 @@
-mod NoneLower
-mod OldRows
-mod RowsDown

@@ -1,8 +1,10 @@
 // The class of a table: the smallest table that a way of carrying it reaches.
 #![tactic(auto)]
 
+mod candidate;
 mod inverse;
 mod least;
+mod permutation;
 mod tables;
 mod way;
 

@@ -5,6 +5,7 @@ ghost use Rattle.std.specs.Prelude.{◌<◌};
 // output is.
 #[derive(Clone, Copy)]
 pub struct Way {
+    // A number and no enum: 24 names would say less than the table of permutations, which is read by the number.
     pub order: u8,
     pub mask: u8,
     pub flipped: bool,

@@ -1,24 +1,25 @@
 // The enumeration as a search.
-ghost use Rattle.std.specs.Prelude.{◌≡◌, ◌≤◌};
+ghost use Rattle.std.specs.Prelude.{◌≡◌};
 ghost use Rattle.std.proofs.Common.{rules};
 
 use find::find_network;
 use mig::{Network, Question, Refusal};
-use search::{Search, check_ask};
+use search::{Count, Search};
 
 // A search that tries the canonical networks one by one. It counts the questions that it has taken.
 #[derive(Drop)]
 pub struct Enumeration {
-    count: u32,
-    ghost stops: { count ≤ 4294967295 },
+    count: Count,
 }
 
 impl Enumeration {
     // A search that has taken no question.
     pub fn new() -> Enumeration
-        ensures { result.count ≡ 0 }
+        ensures { result.count.number ≡ 0 }
     {
-        Enumeration { count: 0 }
+        Enumeration {
+            count: Count::new(),
+        }
     }
 }
 
@@ -27,7 +28,7 @@ impl Search for Enumeration {
 
     ghost need = { λ _. 0 };
 
-    ghost count = { λ s. s.count };
+    ghost count = { λ s. s.count.number };
 
     ghost reach_at_most_seven = { Prim.search rules };
 
@@ -42,9 +43,10 @@ impl Search for Enumeration {
     }
 
     fn count(&self) -> u32 {
-        self.count
+        self.count.number()
     }
 
+    // By a rule of the project the place and the words are lent.
     fn ask(
         &mut self,
         question: &Question,
@@ -52,8 +54,12 @@ impl Search for Enumeration {
         place: &mut Network,
         words: &mut [u32],
     ) -> Result<bool, Refusal> {
-        check_ask(question, gates, 4, 0, words.len())?;
-        self.count = self.count.saturating_add(1);
-        find_network(question, gates, place)
+        self.check(question, gates, words.len())?;
+        self.count.raise();
+        let found = find_network(question, gates)?;
+        if let Some(network) = found {
+            *place = network;
+        }
+        Ok(found.is_some())
     }
 }

@@ -1,4 +1,4 @@
--- The network in the place, and the limits, of a network that is written into places.
+-- Found networks, and their limits, where a network is written into places.
 use Rattle.std.proofs.Common.{◌≡◌, ℕ, ◌≤◌, sym, ap, ◌∙◌, subst}
 use Rattle.mig.specs.declared.network.Network.{Network}
 use Rattle.mig.specs.declared.question.Question.{Question}
@@ -12,7 +12,7 @@ use Rattle.enumeration_laws.proofs.Places.{net_of-network_of}
 pub net_written : (network : Network) (net : Net) → network ≡ network_of net → net_of network ≡ net
 net_written network net e = ap net_of e ∙ net_of-network_of net
 
--- the place holds a network that was written into it
+-- places into which a network was written that meets the question hold a found network
 pub holds_written : (q : Question) (r : ℕ) (place : Network) (net : Net) → place ≡ network_of net → size net ≤ r → Meets q net → Holds q r place
 holds_written q r place net e few meets =
     let same = net_written place net e in

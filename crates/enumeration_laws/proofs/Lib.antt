@@ -1,4 +1,5 @@
 pub mod Columns
+pub mod Ended
 pub mod Extended
 pub mod Fits
 pub mod Found

@@ -1,19 +1,20 @@
 -- Networks that begin with given gates: gate by gate, and candidate by candidate.
-use Rattle.std.proofs.Common.{◌≡◌, ℕ, ◌+◌, ◌-◌, ◌*◌, ◌<◌, ◌≤◌, eqb, ◌⊎◌, List, [], ◌∷◌, ◌++◌, length, sym, refl, ap, ◌∙◌, subst, inl, inr, append_assoc, arith}
+use Rattle.std.proofs.Common.{◌≡◌, ℕ, ◌+◌, ◌-◌, ◌<◌, ◌≤◌, ◌⊎◌, List, [], ◌∷◌, ◌++◌, length, Some, None, Option, MatchOption, sym, refl, ap, ◌∙◌, subst, inl, inr, append_assoc, arith}
 use Rattle.std.proofs.lemmas.List.{length_push}
-use Rattle.std.proofs.lemmas.Bool.{cases_lt, lt-leb}
+use Rattle.std.proofs.lemmas.Bool.{cases_lt}
 use Rattle.mig.specs.declared.network.Gate.{Gate}
+use Rattle.mig.specs.declared.network.Network.{Network}
 use Rattle.mig.specs.declared.question.Question.{Question}
 use Rattle.mig.specs.Networks.{Net, GateBelow, Ordered, size, node}
 use Rattle.mig.specs.Questions.{Meets}
 use Rattle.mig_laws.proofs.Walks.{ordered_right}
-use Rattle.mig_laws.proofs.Tables.{one, one_small}
 use Rattle.canonical_laws.specs.Canonical.{CanonicalGate, CanonicalInstead, AllCanonical}
 use Rattle.canonical_laws.proofs.Exist.{canonical_exists}
 use Rattle.canonical_laws.proofs.Pruning.{canonical_right, last_names_newest}
 use Rattle.gate_order.specs.declared.Candidate.{Candidate}
-use Rattle.gate_order.specs.Candidates.{gate_of, first_naming, IsCandidate, rank, NoneBetween}
-use Rattle.gate_order.proofs.Coverage.{canonical_candidate, same_rank}
+use Rattle.gate_order.specs.Candidates.{gate_of, IsCandidate, rank, Before, NoneBetween, NamesBelow}
+use Rattle.gate_order.proofs.Coverage.{canonical_candidate, same_rank, names_below}
+use Rattle.enumeration_laws.specs.Placed.{FoundOr, FoundWithin}
 use Rattle.enumeration_laws.specs.Prefixes.{NoneExtends, NoneGoesOn, NoneEndsWith, NoneWithoutGates, NoneBefore}
 
 canonical_at : (b : ℕ) (xs : List Gate) (g : Gate) (ys : List Gate) → AllCanonical b (xs ++ g ∷ ys) → CanonicalGate b g
@@ -60,45 +61,44 @@ none_goes_on q before left g last more net (h ∷ rest) same few meets canonical
       canonical = canonical;
     })
 
--- the first candidate may be the first of all, or, where one gate is left behind others, the first that names the newest
-pub none_before_first : (q : Question) (before : List Gate) (left count third : ℕ) → length before ≡ count
-    → (third ≡ 2) ⊎ ((left ≡ 1) × (1 ≤ count) × (third ≡ q.inputs + count)) → NoneBefore q before left (q.inputs + 1 + count) (first_naming third)
-none_before_first q before left count third long (inl e) x is low less = absurd (omega (arith, is))
-none_before_first q before left count third long (inr (single, some, newest)) x is low less = none
+-- before the first candidate nothing is left out; or, where one gate is left behind others, gates that do not name
+-- the newest
+pub none_before_first : (q : Question) (before : List Gate) (left count : ℕ) (next : Option Candidate)
+    → length before ≡ count
+    → ((x : Candidate) → IsCandidate q.inputs (q.inputs + 1 + count) x → Before x next
+    → (left ≡ 1) × (1 ≤ count) × NamesBelow (q.inputs + count) x)
+    → NoneBefore q before left (q.inputs + 1 + count) next
+none_before_first q before left count next long skipped x is earlier = at (skipped x is earlier)
   where
-    lower : x.third < q.inputs + count
-    lower = omega (arith, is)
-
-    none : NoneGoesOn q before left (gate_of q.inputs (q.inputs + 1 + count) x)
-    none net [] same few meets canonical =
-        let named : node (gate_of q.inputs (q.inputs + 1 + count) x).third ≡ q.inputs + length before =
-        last_names_newest q.inputs net before (gate_of q.inputs (q.inputs + 1 + count) x) same (omega arith) meets.formed canonical in
-        let e : 2 * x.third + one (eqb x.complemented 3) ≡ (gate_of q.inputs (q.inputs + 1 + count) x).third = rw (lt-leb (q.inputs + 1 + count) x.third (omega arith)) in
-        omega (arith, one_small (eqb x.complemented 3))
-    none net (h ∷ rest) same few meets canonical = omega arith
+    at : (left ≡ 1) × (1 ≤ count) × NamesBelow (q.inputs + count) x → NoneGoesOn q before left (gate_of x)
+    at (single, some, older) net [] same few meets canonical =
+        let named = last_names_newest q.inputs net before (gate_of x) same (omega arith) meets.formed canonical in
+        let low = names_below (q.inputs + count) x older in
+        omega arith
+    at (single, some, older) net (h ∷ rest) same few meets canonical = omega arith
 
 -- one candidate further
-pub none_before_next : (q : Question) (before : List Gate) (left k : ℕ) (c d : Candidate) → IsCandidate k c → c.third < 16 → NoneBetween k c d
-    → NoneBefore q before left k c → NoneGoesOn q before left (gate_of q.inputs k c) → NoneBefore q before left k d
-none_before_next q before left k c d is low next old here x v l less = at (cases_lt (rank x) (rank c))
+pub none_before_next : (q : Question) (before : List Gate) (left k : ℕ) (c : Candidate) (next : Option Candidate)
+    → k < 16 → IsCandidate q.inputs k c → NoneBetween q.inputs k c next
+    → NoneBefore q before left k (Some c) → NoneGoesOn q before left (gate_of c) → NoneBefore q before left k next
+none_before_next q before left k c next few is between old here x v earlier = at (cases_lt (rank x) (rank c))
   where
-    at : (rank x < rank c) ⊎ (rank c ≤ rank x) → NoneGoesOn q before left (gate_of q.inputs k x)
-    at (inl a) = old x v l a
+    at : (rank x < rank c) ⊎ (rank c ≤ rank x) → NoneGoesOn q before left (gate_of x)
+    at (inl a) = old x v a
     at (inr b) =
-        let e : c ≡ x = same_rank k c x is v low l (omega (arith, next x v l less)) in
-        subst (λ y. NoneGoesOn q before left (gate_of q.inputs k y)) e here
+        let low : rank x ≤ rank c = between x v earlier in
+        let e : c ≡ x = same_rank q.inputs k c x few is v (omega arith) in
+        subst (λ y. NoneGoesOn q before left (gate_of y)) e here
 
 -- behind the last candidate nothing is left
-pub none_before_all : (q : Question) (before : List Gate) (left count : ℕ) (c : Candidate) → length before ≡ count → q.inputs + 1 + count + count ≤ c.third → c.third < 16
-    → NoneBefore q before left (q.inputs + 1 + count) c → NoneExtends q before left
-none_before_all q before left count c long past low none = none_extends q before left each
+pub none_before_all : (q : Question) (before : List Gate) (left count : ℕ) → length before ≡ count
+    → NoneBefore q before left (q.inputs + 1 + count) None → NoneExtends q before left
+none_before_all q before left count long none = none_extends q before left each
   where
     each : (g : Gate) → CanonicalGate (q.inputs + 1) g → GateBelow (q.inputs + 1 + length before) g → NoneGoesOn q before left g
     each g canonical below =
         let x = canonical_candidate q.inputs (q.inputs + 1 + count) g canonical (subst (λ m. GateBelow (q.inputs + 1 + m) g) long below) in
-        let is = x.is in
-        let third = x.third in
-        subst (NoneGoesOn q before left) x.gate (none x.candidate x.is (omega arith) (omega (arith, is, third)))
+        subst (NoneGoesOn q before left) x.gate (none x.candidate x.is tt)
 
 -- a network of at most r gates would have a canonical one in its place
 pub none_within : (q : Question) (r : ℕ) → NoneWithoutGates q → (1 ≤ r → NoneExtends q [] r) → (net : Net) → Meets q net → size net ≤ r → ⊥
@@ -112,3 +112,11 @@ none_within q r empty more net meets few =
         let s : size other ≡ length (g ∷ gs) = ap length e in
         let h = instead.no_larger in
         more (omega arith) other (record { behind = g ∷ gs; gates = e; some = omega arith; few = omega arith; meets = instead.meets; canonical = instead.canonical })
+
+-- the network without gates, or else the one with gates, is the answer
+pub found_within : (q : Question) (r : ℕ) (first found : Option Network) → FoundOr (NoneWithoutGates q) q 0 first
+    → MatchOption first (FoundOr (NoneExtends q [] r) q r found) (λ x. found ≡ Some x) → FoundWithin q r found
+found_within q r (Some network) found without either = subst (FoundWithin q r) (sym either)
+    (record { meets = without.meets; few = omega (arith, without.few); cleared = without.cleared })
+found_within q r None (Some network) without either = either
+found_within q r None None without either = none_within q r without (λ _. either)

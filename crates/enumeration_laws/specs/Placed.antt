@@ -1,29 +1,30 @@
 -- The gates that are placed, and what the search answers.
-use Rattle.std.specs.Prelude.{◌≡◌, ℕ, Bool, true, false, List, length}
+use Rattle.std.specs.Prelude.{◌≡◌, ℕ, List, length, Some, None, Option}
 use Rattle.mig.specs.declared.network.Gate.{Gate}
 use Rattle.mig.specs.declared.network.Network.{Network}
 use Rattle.mig.specs.declared.question.Question.{Question}
 use Rattle.mig.specs.Networks.{net_of, network_of}
+use Rattle.value_kinds.specs.declared.kinds.Column.{Column}
 use Rattle.search.specs.Meaning.{Holds, NoneWithin}
 use Rattle.enumeration_laws.specs.Columns.{CodeColumns}
 use Rattle.enumeration_laws.specs.Prefixes.{with_last_node}
-use Rattle.enumeration_laws.specs.declared.Prefix.{Prefix}
 
--- the gates of a prefix
-abbrev pub placed : Prefix → List Gate
-placed prefix = (net_of prefix.network).gates
+-- the gates of a network's places
+abbrev pub placed : Network → List Gate
+placed network = (net_of network).gates
 
--- a prefix over n inputs: its output is the last node, the places behind its gates are 0, and it has the columns of its codes
-pub record IsPrefix (n : ℕ) (prefix : Prefix) : Type 0 where
-  pub network : prefix.network ≡ network_of (with_last_node n (placed prefix))
-  pub columns : CodeColumns n (placed prefix) prefix.columns
-  pub room : length prefix.columns ≡ 24
+-- a prefix over n inputs: its output is the last node, the places behind its gates are 0, and the list has the
+-- columns of its codes
+pub record IsPrefix (n : ℕ) (network : Network) (list : List Column) : Type 0 where
+  pub written : network ≡ network_of (with_last_node n (placed network))
+  pub columns : CodeColumns n (placed network) list
+  pub room : length list ≡ 24
 
--- found: the place holds a network of at most r gates that meets the question; else the place is as it was, and there is none
-abbrev pub FoundOr : Type 0 → Question → ℕ → Network → Network → Bool → Type 0
-FoundOr None q r before after true = Holds q r after
-FoundOr None q r before after false = (after ≡ before) × None
+-- found: a network of at most r gates that meets the question; else there is none, in the sense that is given
+abbrev pub FoundOr : Type 0 → Question → ℕ → Option Network → Type 0
+FoundOr Absent q r (Some network) = Holds q r network
+FoundOr Absent q r None = Absent
 
 -- found exactly when a network of at most r gates meets the question
-abbrev pub FoundWithin : Question → ℕ → Network → Network → Bool → Type 0
-FoundWithin q r before after found = FoundOr (NoneWithin q r) q r before after found
+abbrev pub FoundWithin : Question → ℕ → Option Network → Type 0
+FoundWithin q r found = FoundOr (NoneWithin q r) q r found

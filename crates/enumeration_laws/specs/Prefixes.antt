@@ -1,12 +1,12 @@
 -- The networks that begin with given gates.
-use Rattle.std.specs.Prelude.{◌≡◌, ℕ, ◌+◌, ◌*◌, ◌<◌, ◌≤◌, List, [], ◌∷◌, ◌++◌, length}
+use Rattle.std.specs.Prelude.{◌≡◌, ℕ, ◌+◌, ◌*◌, ◌<◌, ◌≤◌, List, [], ◌∷◌, ◌++◌, length, Option}
 use Rattle.mig.specs.declared.network.Gate.{Gate}
 use Rattle.mig.specs.declared.question.Question.{Question}
 use Rattle.mig.specs.Networks.{Net, node}
 use Rattle.mig.specs.Questions.{Meets}
 use Rattle.canonical_laws.specs.Canonical.{Canonical}
 use Rattle.gate_order.specs.declared.Candidate.{Candidate}
-use Rattle.gate_order.specs.Candidates.{gate_of, IsCandidate, rank}
+use Rattle.gate_order.specs.Candidates.{gate_of, IsCandidate, Before}
 
 -- a canonical network that meets the question and begins with the gates, with at least one gate behind them and at most `left`
 pub record Extends (q : Question) (before : List Gate) (left : ℕ) (net : Net) : Type 0 where
@@ -33,9 +33,11 @@ NoneEndsWith q before g = (net : Net) → net.gates ≡ before ++ g ∷ [] → n
 abbrev pub NoneWithoutGates : Question → Type 0
 NoneWithoutGates q = (net : Net) → net.gates ≡ [] → Meets q net → ⊥
 
--- no such network goes on with the gate of a candidate before c
-abbrev pub NoneBefore : Question → List Gate → ℕ → ℕ → Candidate → Type 0
-NoneBefore q before left k c = (x : Candidate) → IsCandidate k x → x.third < 16 → rank x < rank c → NoneGoesOn q before left (gate_of q.inputs k x)
+-- no such network goes on with the gate of a candidate before the next one, or of any if there is no next one;
+-- k nodes stand
+abbrev pub NoneBefore : Question → List Gate → ℕ → ℕ → Option Candidate → Type 0
+NoneBefore q before left k next = (x : Candidate) → IsCandidate q.inputs k x → Before x next
+    → NoneGoesOn q before left (gate_of x)
 
 -- the gates with one more behind them, and an output
 abbrev pub with_gate : List Gate → Gate → ℕ → Net

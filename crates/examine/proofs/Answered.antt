@@ -11,7 +11,7 @@ use Rattle.mig.specs.Questions.{Valid, Meets, IsGreatestFanOut, row_bit, level}
 use Rattle.mig.specs.Rules.{or_else, refuse_if, unless_refused, inputs_refusal, question_refusal, form_refusal, examine_refusal, examined, is_computed}
 use Rattle.value_kinds.specs.declared.kinds.Column.{Column}
 use Rattle.mig_laws.proofs.Decisions.{column_decides}
-use Rattle.mig_laws.proofs.Refusals.{passes, question-passes, accepted, examine_passes, examined_network, greatest_fan_out_lem, some_from_err, none_from_ok, value_from_ok}
+use Rattle.mig_laws.proofs.Refusals.{passes, question-passes, accepted, examine_passes, examined_network, greatest_fan_out_lem, none_from_ok, value_from_ok}
 
 -- accepted exactly when the network meets the question
 pub accepted_when_met : (q : Question) (network : Network) (r : Result (ℕ × ℕ) Refusal) → r ≡ examined q network
@@ -26,15 +26,6 @@ pair_told q network r e = subst (λ s. IfOk s (λ p. (p.0 ≡ level q.inputs (ne
     at : (o : Option Refusal) → IfOk (unless_refused {X = ℕ × ℕ} o (level q.inputs (net_of network), greatest_fan_out q.inputs (net_of network))) (λ p. (p.0 ≡ level q.inputs (net_of network)) × IsGreatestFanOut q.inputs (net_of network) p.1)
     at (Some e) = tt
     at None = (refl, greatest_fan_out_lem q.inputs (net_of network))
-
--- the answer where the question is refused
-pub bad_question : {X : Type 0} (q : Question) (network : Network) (x : X) (e : Refusal) → Err e ≡ unless_refused (question_refusal q) x → examined q network ≡ Err e
-bad_question q network x e h = rw (some_from_err (question_refusal q) x e h)
-
--- the answer where the form of the network is refused
-pub malformed : {X : Type 0} (q : Question) (network : Network) (x : X) (e : Refusal) → question_refusal q ≡ None
-    → Err e ≡ unless_refused (form_refusal q.inputs network) x → examined q network ≡ Err e
-malformed q network x e a h = examined_network q network a ∙ rw (some_from_err (form_refusal q.inputs network) x e h)
 
 -- the answer where question and form have passed, by the three tests that are left
 compared : (q : Question) (network : Network) (computed deep wide : Bool) → question_refusal q ≡ None → form_refusal q.inputs network ≡ None

@@ -12,7 +12,7 @@ use mig::{Gate, Network, Refusal};
 fn code_uses(code: u8, node: u8) -> u8
     ensures { result ≡ names node code }
 {
-    if code / 2 == node { 1 } else { 0 }
+    u8::from(code / 2 == node)
 }
 
 // How many of a gate's fan-ins name the node.
@@ -25,14 +25,14 @@ fn gate_uses(gate: &Gate, node: u8) -> u8
 
 // The fan-out of a node: how many fan-ins name it, and the output.
 fn fan_out(network: &Network, node: u8) -> u8
-    requires { network.now.count ≤ 7 }
     ensures { result ≡ uses node (net_of network.now) }
 {
-    let mut total = 0;
-    for i in 0..network.count as usize {
-        total += gate_uses(&network.gates[i], node);
-    }
-    total + code_uses(network.output, node)
+    let fan_ins: u8 = network
+        .gates()
+        .iter()
+        .map(|gate| gate_uses(gate, node))
+        .sum();
+    fan_ins + code_uses(network.output, node)
 }
 
 // The greatest fan-out of a gate; 0 without gates.
@@ -40,12 +40,10 @@ pub fn greatest_fan_out(inputs: u8, network: &Network) -> Result<u8, Refusal>
     ensures { result ≡ unless_refused (form_refusal inputs network.now) (greatest_fan_out inputs (net_of network.now)) }
 {
     check_network(inputs, network)?;
-    let mut most = 0;
-    for i in 0..network.count {
-        let uses = fan_out(network, inputs + 1 + i);
-        if uses > most {
-            most = uses;
-        }
-    }
+    let first = inputs + 1;
+    let most = (first..first + network.count).fold(
+        0,
+        |most: u8, node| most.max(fan_out(network, node)),
+    );
     Ok(most)
 }

@@ -1,16 +1,15 @@
 -- Networks of a question and of its class: what is met, and how many gates.
 use Rattle.std.proofs.Common.{◌≡◌, ℕ, ◌%◌, ◌^◌, ◌<◌, ◌≤◌, sym, ap, ◌∙◌, subst}
 use Rattle.mig.specs.declared.question.Question.{Question}
-use Rattle.mig.specs.Networks.{Net, size, Formed}
-use Rattle.mig.specs.Normal.{Normal, normalised}
+use Rattle.mig.specs.Networks.{Net}
 use Rattle.mig.specs.Tables.{bit_at}
 use Rattle.mig.specs.Questions.{question_of, Meets}
 use Rattle.mig_laws.proofs.Tables.{table_below}
-use Rattle.mig_laws.proofs.Turning.{normalised_normal, normalised_meets, normalised_shape}
+use Rattle.mig_laws.proofs.Turning.{normalised_meets}
 use Rattle.class_laws.specs.Lifting.{raise_net, cut_net}
 use Rattle.class_laws.specs.Ways.{Way, IsWay, inverse, carry_table, carry_net, Representative}
-use Rattle.class_laws.proofs.Lifted.{raising, cutting, raised_same_gates, cut_same_gates}
-use Rattle.class_laws.proofs.Carried.{carrying, returning, carried_same_gates}
+use Rattle.class_laws.proofs.Lifted.{raising, cutting}
+use Rattle.class_laws.proofs.Carried.{carrying, returning}
 use Rattle.class_laws.proofs.Classes.{one_representative, least_represents}
 use Rattle.filing.specs.Filing.{lifted_table, class_of, class_question, LeadsToClass, kept_by, given_by}
 
@@ -45,26 +44,3 @@ given_meets q w net few l h =
     let lifted = subst (λ (g : ℕ). Meets (question_of 4 g q.limits) (carry_net (inverse w) net)) (way_back q w l) carried in
     normalised_meets q (cut_net 4 q.inputs (carry_net (inverse w) net))
     (cutting 4 q.inputs q.table q.limits (carry_net (inverse w) net) few lifted)
-
--- a normalised network is normal, well-formed, and has as many gates
-pub record NormalForm (n : ℕ) (net other : Net) : Type 0 where
-  pub normal : Normal other
-  pub gates : size other ≡ size net
-
-normal_form : (n : ℕ) (net : Net) → Formed n net → NormalForm n net (normalised n net)
-normal_form n net f = record { normal = normalised_normal n net f; gates = (normalised_shape n net f).gates }
-
-pub kept_form : (q : Question) (w : Way) (net : Net) → q.inputs ≤ 4 → LeadsToClass q w → Formed q.inputs net → NormalForm 4 net (kept_by w q net)
-kept_form q w net few l f =
-    let r = raised_same_gates 4 q.inputs net few f in
-    let c = carried_same_gates w (raise_net 4 q.inputs net) l.is_way r.formed in
-    let e = normal_form 4 (carry_net w (raise_net 4 q.inputs net)) c.formed in
-    record { normal = e.normal; gates = e.gates ∙ c.gates ∙ r.gates }
-
-pub given_form : (q : Question) (w : Way) (net : Net) → q.inputs ≤ 4 → LeadsToClass q w → Formed 4 net → NormalForm q.inputs net (given_by w q net)
-given_form q w net few l f =
-    let back = returning w (lifted_table q) l.is_way (lifted_below q) in
-    let c = carried_same_gates (inverse w) net back.0 f in
-    let r = cut_same_gates 4 q.inputs (carry_net (inverse w) net) few c.formed in
-    let e = normal_form q.inputs (cut_net 4 q.inputs (carry_net (inverse w) net)) r.formed in
-    record { normal = e.normal; gates = e.gates ∙ r.gates ∙ c.gates }

@@ -1,95 +1,53 @@
-// The candidates for the next gate, in their order, and their gates.
-ghost use Rattle.std.specs.Prelude.{◌≡◌, ◌+◌, ◌<◌, ◌≤◌, ◌⊎◌};
-ghost use Rattle.gate_order.specs.Candidates.{gate_of, first_naming, IsCandidate, rank, NoneBetween};
+// The gates that are tried behind the nodes that stand, in the order of their candidates.
+ghost use Rattle.std.specs.Prelude.{◌≡◌, ◌+◌, ◌≤◌};
+ghost use Rattle.gate_order.specs.Candidates.{IsCandidate, Before, NamesBelow};
+ghost use Rattle.gate_order.specs.declared.Candidate.{Candidate};
+ghost use Rattle.find.specs.Candidates.{IsAtCandidate, GivesCandidate, ranks_left};
+ghost use Rattle.std.specs.Iterator.{at_most};
 
+use crate::nodes::Nodes;
 use gate_order::Candidate;
 use mig::Gate;
 
-// The first candidate with a third node.
-pub(crate) fn first_naming(third: usize) -> Candidate
-    ensures { result ≡ first_naming third }
-{
-    Candidate {
-        first: 0,
-        second: 1,
-        third,
-        complemented: 0,
+// The gates of the candidates from the next one on.
+#[derive(Drop)]
+pub(crate) struct Candidates {
+    nodes: Nodes,
+    next: Option<Candidate>,
+}
+
+impl Candidates {
+    // All candidates; where one gate is left behind others, those from the first on that names the newest node.
+    pub(crate) fn behind(nodes: Nodes, left: u8) -> Candidates
+        ensures nodes { result.nodes ≡ nodes }
+        ensures at_candidate { IsAtCandidate result }
+        ensures skips_older { (x : Candidate) → IsCandidate nodes.inputs (nodes.inputs + 1 + nodes.gates) x
+            → Before x result.next → (left ≡ 1) × (1 ≤ nodes.gates) × NamesBelow (nodes.inputs + nodes.gates) x }
+    {
+        let third = if left == 1 && nodes.gates > 0 {
+            nodes.inputs + nodes.gates
+        } else {
+            2
+        };
+        Candidates {
+            nodes,
+            next: nodes.first_naming(third.max(2)),
+        }
     }
 }
 
-// The first candidate to try behind `count` gates: where one gate is left, it names the newest.
-pub(crate) fn first_candidate(inputs: usize, count: usize, left: u8) -> Candidate
-    requires { (inputs ≤ 4) × (count ≤ 4) }
-    ensures first { result ≡ first_naming result.third }
-    ensures third { (2 ≤ result.third) × (result.third ≤ 8) }
-    ensures none_before { (result.third ≡ 2) ⊎ ((left ≡ 1) × (1 ≤ count) × (result.third ≡ inputs + count)) }
-{
-    if left == 1 && count > 0 && inputs + count > 2 {
-        first_naming(inputs + count)
-    } else {
-        first_naming(2)
-    }
-}
+impl Iterator for Candidates {
+    type Item = Gate;
 
-// The candidate behind this one, where `nodes` nodes stand.
-pub(crate) fn next_candidate(c: Candidate, nodes: usize) -> Candidate
-    requires candidate { IsCandidate nodes c }
-    requires third { c.third < 15 }
-    ensures candidate { IsCandidate nodes result }
-    ensures third { result.third ≤ c.third + 1 }
-    ensures rises { rank c < rank result }
-    ensures none_between { NoneBetween nodes c result }
-{
-    if c.third >= nodes {
-        return first_naming(c.third + 1);
-    }
-    if c.complemented < 3 {
-        return Candidate {
-            first: c.first,
-            second: c.second,
-            third: c.third,
-            complemented: c.complemented + 1,
-        };
-    }
-    if c.first + 1 < c.second {
-        return Candidate {
-            first: c.first + 1,
-            second: c.second,
-            third: c.third,
-            complemented: 0,
-        };
-    }
-    if c.second + 1 < c.third {
-        return Candidate {
-            first: 0,
-            second: c.second + 1,
-            third: c.third,
-            complemented: 0,
-        };
-    }
-    first_naming(c.third + 1)
-}
+    ghost can_next = { IsAtCandidate };
 
-// The gate of a candidate, where `nodes` nodes stand.
-pub(crate) fn candidate_gate(c: Candidate, inputs: usize, nodes: usize) -> Gate
-    requires inputs { inputs ≤ 4 }
-    requires candidate { IsCandidate nodes c }
-    requires third { c.third < 15 }
-    ensures { result ≡ gate_of inputs nodes c }
-{
-    if c.third >= nodes {
-        return Gate {
-            first: 0,
-            second: 1,
-            third: (2 * (inputs + 1 + (c.third - nodes))) as u8,
-        };
-    }
-    let x = if c.complemented == 1 { 1 } else { 0 };
-    let y = if c.complemented == 2 { 1 } else { 0 };
-    let z = if c.complemented == 3 { 1 } else { 0 };
-    Gate {
-        first: (2 * c.first + x) as u8,
-        second: (2 * c.second + y) as u8,
-        third: (2 * c.third + z) as u8,
+    ghost next_gives = { GivesCandidate };
+
+    ghost remaining = { λ s. at_most (ranks_left s.next) };
+
+    fn next(&mut self) -> Option<Gate> {
+        let candidate = self.next?;
+        self.next = self.nodes.following(candidate);
+        Some(self.nodes.gate(candidate))
     }
 }

@@ -5,9 +5,10 @@ mod candidates;
 mod columns;
 mod extend;
 mod finding;
-mod last_gate;
 mod limits;
-mod places;
-mod prefixes;
+mod next_gate;
+mod nodes;
+mod prefix;
+mod valid_question;
 
 pub use finding::find_network;

@@ -1,1 +1,2 @@
 pub mod Coverage
+pub mod Order

@@ -1,8 +1,14 @@
-// The commands and how a line is read.
-use crate::network_words::network;
-use crate::numbers::{decimal, hexadecimal};
-use mig::{Limits, Network, Question};
-use std::str::SplitAsciiWhitespace;
+// The commands: how they are read, and how they are answered.
+use crate::answers::Answer;
+use crate::words::{Unreadable, next};
+use bound_layer::BoundLayer;
+use classes::representative;
+use enumeration::Enumeration;
+use examine::examine;
+use mig::{Limits, Network, Question, Refusal};
+use normalise::normalise;
+use search::Search;
+use std::str::{FromStr, SplitAsciiWhitespace};
 
 #[derive(Clone, Copy)]
 pub(crate) enum Command {
@@ -12,68 +18,68 @@ pub(crate) enum Command {
     Ask(Question, u8),
 }
 
-// Why a line cannot be read.
-#[derive(Clone, Copy)]
-pub(crate) enum Unreadable {
-    UnknownCommand,
-    TooFewWords,
-    TooManyWords,
-    NoNumber,
-    NoTable,
-    NoNetwork,
-}
-
-fn next_word<'a>(words: &mut SplitAsciiWhitespace<'a>) -> Result<&'a str, Unreadable> {
-    words.next().ok_or(Unreadable::TooFewWords)
-}
-
-fn next_number(words: &mut SplitAsciiWhitespace) -> Result<u8, Unreadable> {
-    decimal(next_word(words)?).ok_or(Unreadable::NoNumber)
-}
-
-fn next_table(words: &mut SplitAsciiWhitespace) -> Result<u32, Unreadable> {
-    hexadecimal(next_word(words)?).ok_or(Unreadable::NoTable)
-}
-
-fn next_network(words: &mut SplitAsciiWhitespace) -> Result<Network, Unreadable> {
-    network(next_word(words)?).ok_or(Unreadable::NoNetwork)
-}
-
 // The number of inputs, the table and the two limits.
 fn next_question(words: &mut SplitAsciiWhitespace) -> Result<Question, Unreadable> {
-    let inputs = next_number(words)?;
-    let table = next_table(words)?;
-    let depth = next_number(words)?;
-    let fan_out = next_number(words)?;
     Ok(Question {
-        inputs,
-        table,
-        limits: Limits { depth, fan_out },
+        inputs: next(words)?,
+        table: next(words)?,
+        limits: Limits {
+            depth: next(words)?,
+            fan_out: next(words)?,
+        },
     })
 }
 
-// The command of a line, none where it is empty; `#` begins a comment.
-pub(crate) fn parse(line: &str) -> Result<Option<Command>, Unreadable> {
-    let text = match line.split_once('#') {
-        Some((before, _)) => before,
-        None => line,
-    };
-    let mut words = text.split_ascii_whitespace();
-    let Some(name) = words.next() else {
-        return Ok(None);
-    };
-    let command = match name {
-        "examine" => Command::Examine(next_question(&mut words)?, next_network(&mut words)?),
-        "normalise" => Command::Normalise(next_number(&mut words)?, next_network(&mut words)?),
-        "representative" => Command::Representative(
-            next_number(&mut words)?,
-            next_table(&mut words)?,
-        ),
-        "ask" => Command::Ask(next_question(&mut words)?, next_number(&mut words)?),
-        _ => return Err(Unreadable::UnknownCommand),
-    };
-    match words.next() {
-        Some(_) => Err(Unreadable::TooManyWords),
-        None => Ok(Some(command)),
+// The command's name, and then what it takes.
+impl FromStr for Command {
+    type Err = Unreadable;
+
+    fn from_str(text: &str) -> Result<Command, Unreadable> {
+        let mut words = text.split_ascii_whitespace();
+        let name = words.next().ok_or(Unreadable::TooFewWords)?;
+        let command = match name {
+            "examine" => Command::Examine(next_question(&mut words)?, next(&mut words)?),
+            "normalise" => Command::Normalise(next(&mut words)?, next(&mut words)?),
+            "representative" => Command::Representative(next(&mut words)?, next(&mut words)?),
+            "ask" => Command::Ask(next_question(&mut words)?, next(&mut words)?),
+            _ => return Err(Unreadable::UnknownCommand),
+        };
+        if words.next().is_some() {
+            return Err(Unreadable::TooManyWords);
+        }
+        Ok(command)
     }
+}
+
+impl Command {
+    pub(crate) fn name(&self) -> &'static str {
+        match self {
+            Command::Examine(..) => "examine",
+            Command::Normalise(..) => "normalise",
+            Command::Representative(..) => "representative",
+            Command::Ask(..) => "ask",
+        }
+    }
+
+    pub(crate) fn answer(&self) -> Result<Answer, Refusal> {
+        Ok(match self {
+            Command::Examine(question, network) => {
+                let (level, fan_out) = examine(question, network)?;
+                Answer::Examined { level, fan_out }
+            }
+            Command::Normalise(inputs, network) => Answer::Normalised(normalise(*inputs, network)?),
+            Command::Representative(inputs, table) => {
+                Answer::Represented(representative(*inputs, *table)?)
+            }
+            Command::Ask(question, gates) => Answer::Asked(asked(question, *gates)?),
+        })
+    }
+}
+
+// A network of at most `gates` gates that meets the question, none if there is none.
+fn asked(question: &Question, gates: u8) -> Result<Option<Network>, Refusal> {
+    let mut search = BoundLayer::new(Enumeration::new());
+    let mut place = Network::default();
+    let found = search.ask(question, gates, &mut place, &mut [])?;
+    Ok(found.then_some(place))
 }

@@ -3,52 +3,60 @@
 
 mod answers;
 mod commands;
-mod network_words;
-mod numbers;
+mod words;
 
-use answers::Answer;
 use anyhow::anyhow;
-use commands::parse;
+use commands::Command;
 use std::env;
 use std::fs::File;
 use std::io::{BufRead, BufReader};
 use std::process::ExitCode;
 
-// The answer to one line; none where the line has no command.
+// The text of a line before its comment, which `#` begins.
+fn before_comment(line: &str) -> &str {
+    line.split_once('#').map_or(line, |(before, _)| before)
+}
+
+// Answers one line; nothing where it has no words.
 fn answer_line(rt: &HostRuntime, number: u64, bytes: &[u8]) -> anyhow::Result<()> {
     let line = String::from_utf8_lossy(rt.alloc(), bytes)?;
-    match parse(line.as_str()) {
-        Ok(None) => {}
-        Ok(Some(command)) => rt.println(Answer::to(command))?,
+    let text = before_comment(line.as_str()).trim_ascii();
+    if text.is_empty() {
+        return Ok(());
+    }
+    match text.parse::<Command>() {
+        Ok(command) => write_answer(rt, command)?,
         Err(why) => println!(rt; "line {number}: {why}")?,
     }
     Ok(())
 }
 
+// Writes the name of the command and its answer.
+fn write_answer(rt: &HostRuntime, command: Command) -> anyhow::Result<()> {
+    let name = command.name();
+    match command.answer() {
+        Ok(answer) => println!(rt; "{name}: {answer}")?,
+        Err(refusal) => println!(rt; "{name}: refused {} {refusal}", refusal.number())?,
+    }
+    Ok(())
+}
+
 // Answers each line of the input, to its end.
-fn answer_all<R: BufRead + Drop>(rt: &HostRuntime, mut input: R) -> anyhow::Result<()> {
-    let mut line = Vec::new(rt.alloc());
-    for number in 1..u64::MAX {
-        line.clear();
-        if input.read_until(b'\n', &mut line)? == 0 {
-            break;
-        }
-        answer_line(rt, number, line.as_slice())?;
+fn answer_all<R: BufRead + Drop>(rt: &HostRuntime, input: R) -> anyhow::Result<()> {
+    for (number, line) in (1..u64::MAX).zip(input.split(rt.alloc(), b'\n')) {
+        answer_line(rt, number, line?.as_slice())?;
     }
     Ok(())
 }
 
 // Answers each line of the file.
 fn answer_file(rt: &HostRuntime, path: &str) -> anyhow::Result<()> {
-    match File::open(rt, path) {
-        Ok(file) => answer_all(rt, BufReader::new(rt.alloc(), file)?),
-        Err(why) => Err(anyhow!(format!(in rt.alloc(); "cannot open {path}: {why}")?)),
-    }
+    let file = File::open(rt, path).map_err(|why| anyhow!("cannot open {path}: {why}"))?;
+    answer_all(rt, BufReader::new(rt.alloc(), file)?)
 }
 
 fn run(rt: &HostRuntime) -> anyhow::Result<()> {
-    let mut words = env::args(rt)?;
-    let _program = words.next();
+    let mut words = env::args(rt)?.skip(1);
     match (words.next(), words.next()) {
         (None, _) => answer_all(rt, BufReader::new(rt.alloc(), rt.stdin())?),
         (Some(path), None) => answer_file(rt, path.as_str()),

@@ -7,6 +7,7 @@ use Rattle.mig.specs.declared.refusal.Refusal.TheVariants.{LevelAboveLimit}
 use Rattle.mig.specs.Networks.{network_of}
 use Rattle.known_cells.specs.declared.KnownCells.{KnownCells}
 
+-- the question of a number of inputs, a table and the two limits
 abbrev pub question : ℕ → ℕ → ℕ → ℕ → Question
 question n t d f = record { inputs = n; table = t; limits = record { depth = d; fan_out = f } }
 

@@ -2,8 +2,9 @@
 // proved table.
 #![tactic(auto)]
 
-ghost use Rattle.std.specs.Prelude.{◌≡◌};
-ghost use Rattle.known_cells.specs.Table.{table, question, one_gate, three_gates};
+ghost use Rattle.std.specs.Prelude.{◌≡◌, ◌≤◌, length};
+ghost use Rattle.mig.specs.Networks.{network_of};
+ghost use Rattle.known_cells.specs.Table.{table, question, gate, three_gates};
 
 use classes::representative;
 use examine::examine;
@@ -24,12 +25,7 @@ pub struct KnownCells {
     pub class_of_majority: Result<u16, Refusal>,
 }
 
-const EMPTY: Gate = Gate {
-    first: 0,
-    second: 0,
-    third: 0,
-};
-
+// The question of a number of inputs, a table and the two limits.
 fn asked(inputs: u8, table: u32, depth: u8, fan_out: u8) -> Question
     ensures { result ≡ question inputs table depth fan_out }
 {
@@ -40,17 +36,28 @@ fn asked(inputs: u8, table: u32, depth: u8, fan_out: u8) -> Question
     }
 }
 
-fn one_gate(first: u8, second: u8, third: u8, output: u8) -> Network
-    ensures { result ≡ one_gate first second third output }
+// The gate of three codes.
+fn gate(first: u8, second: u8, third: u8) -> Gate
+    ensures { result ≡ gate first second third }
 {
-    let gate = Gate {
+    Gate {
         first,
         second,
         third,
-    };
+    }
+}
+
+// The network of the gates.
+fn network(gates: &[Gate], output: u8) -> Network
+    requires { length gates.now ≤ 7 }
+    ensures { result ≡ network_of (record { gates = gates.now; output = output }) }
+{
+    // Two lines of the library, as in two other crates: a public function would have to answer for eight gates too.
+    let mut places = [Gate::default(); 7];
+    places[..gates.len()].copy_from_slice(gates);
     Network {
-        count: 1,
-        gates: [gate, EMPTY, EMPTY, EMPTY, EMPTY, EMPTY, EMPTY],
+        count: gates.len() as u8,
+        gates: places,
         output,
     }
 }
@@ -59,26 +66,7 @@ fn one_gate(first: u8, second: u8, third: u8, output: u8) -> Network
 fn three_gates() -> Network
     ensures { result ≡ three_gates }
 {
-    let all = Gate {
-        first: 2,
-        second: 4,
-        third: 6,
-    };
-    let but_last = Gate {
-        first: 2,
-        second: 4,
-        third: 7,
-    };
-    let top = Gate {
-        first: 9,
-        second: 10,
-        third: 6,
-    };
-    Network {
-        count: 3,
-        gates: [all, but_last, top, EMPTY, EMPTY, EMPTY, EMPTY],
-        output: 12,
-    }
+    network(&[gate(2, 4, 6), gate(2, 4, 7), gate(9, 10, 6)], 12)
 }
 
 // Examines and normalises the known cells, and takes their representatives.
@@ -86,24 +74,15 @@ pub fn known_cells() -> KnownCells
     ensures { result ≡ table }
 {
     let three = three_gates();
-    let majority = examine(&asked(3, 0xe8, 1, 1), &one_gate(2, 4, 6, 8));
-    let conjunction = examine(&asked(2, 0x8, 7, 19), &one_gate(0, 2, 4, 6));
-    let parity = examine(&asked(3, 0x96, 2, 1), &three);
-    let parity_in_one_level = examine(&asked(3, 0x96, 1, 1), &three);
-    let normal_form = normalise(3, &one_gate(3, 5, 6, 8));
-    let class_of_constant_0 = representative(0, 0x0);
-    let class_of_constant_1 = representative(0, 0x1);
-    let class_of_an_input = representative(1, 0x2);
-    let class_of_majority = representative(3, 0xe8);
     KnownCells {
-        majority,
-        conjunction,
-        parity,
-        parity_in_one_level,
-        normal_form,
-        class_of_constant_0,
-        class_of_constant_1,
-        class_of_an_input,
-        class_of_majority,
+        majority: examine(&asked(3, 0xe8, 1, 1), &network(&[gate(2, 4, 6)], 8)),
+        conjunction: examine(&asked(2, 0x8, 7, 19), &network(&[gate(0, 2, 4)], 6)),
+        parity: examine(&asked(3, 0x96, 2, 1), &three),
+        parity_in_one_level: examine(&asked(3, 0x96, 1, 1), &three),
+        normal_form: normalise(3, &network(&[gate(3, 5, 6)], 8)),
+        class_of_constant_0: representative(0, 0x0),
+        class_of_constant_1: representative(0, 0x1),
+        class_of_an_input: representative(1, 0x2),
+        class_of_majority: representative(3, 0xe8),
     }
 }

@@ -1,5 +1,5 @@
 -- What asking with more and more gates shows.
-use Rattle.std.specs.Prelude.{◌≡◌, ℕ, ◌+◌, ◌-◌, ◌<◌, ◌≤◌, max, Bool, true, false}
+use Rattle.std.specs.Prelude.{◌≡◌, ℕ, ◌+◌, ◌-◌, ◌<◌, ◌≤◌, max, MatchResult}
 use Rattle.mig.specs.declared.network.Network.{Network}
 use Rattle.mig.specs.declared.question.Question.{Question}
 use Rattle.search.specs.Meaning.{NoneWithin, Holds}
@@ -24,10 +24,8 @@ pub record NoneFound (q : Question) (from end lower times : ℕ) (place place' :
   pub none : NoneFrom q from end
   pub all_counted : times ≡ end - from
 
-abbrev pub ByAnswer : Question → ℕ → ℕ → ℕ → ℕ → Network → Network → Bool → Type 0
-ByAnswer q from end lower times place place' true = FoundAt q from end lower times place'
-ByAnswer q from end lower times place place' false = NoneFound q from end lower times place place'
-
 -- what asking from one number on, below another, has shown
 abbrev pub AskedBelow : Question → ℕ → ℕ → Network → Network → Asked → Type 0
-AskedBelow q from end place place' a = ByAnswer q from end a.lower a.times place place' a.found
+AskedBelow q from end place place' a =
+    MatchResult a.least (λ lower. FoundAt q from end lower a.times place')
+    (λ lower. NoneFound q from end lower a.times place place')

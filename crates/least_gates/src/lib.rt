@@ -7,17 +7,18 @@ ghost use Rattle.search.specs.Meaning.{raised, ask_refusal};
 ghost use Rattle.least_gates.specs.Asked.{AskedBelow};
 
 use mig::{Network, Question, Refusal};
-use search::{Search, check_ask};
+use search::Search;
 
-// What asking has shown: whether a network was found, the lower number that is now known, and how many numbers were asked.
-#[derive(Clone, Copy)]
+// What asking has shown, and how many numbers were asked. `least` is the first number that is enough; if none is, its
+// error is the lower number that is now known.
+#[derive(Clone, Copy, Debug, PartialEq, Eq)]
 pub struct Asked {
-    pub found: bool,
-    pub lower: u8,
+    pub least: Result<u8, u8>,
     pub times: u8,
 }
 
 // Asks with `from` gates, one more, and so on below `end`, and stops at the first "found".
+// By a rule of the project the place and the words are lent, as the search takes them.
 pub fn least_gates<S: Search>(
     search: &mut S,
     question: &Question,
@@ -31,29 +32,17 @@ pub fn least_gates<S: Search>(
     ensures asked_up_to_the_first_found { MatchResult result (λ r. (S.count search.new ≡ raised (S.count search.old) r.times) × AskedBelow question.now from end place.old place.new r)
         (λ _. (search.new ≡ search.old) × (place.new ≡ place.old) × (words.new ≡ words.old)) }
 {
-    check_ask(
-        question,
-        end.saturating_sub(1),
-        search.reach(),
-        search.need(),
-        words.len(),
-    )?;
-    let mut lower = from;
-    let mut times = 0;
-    while lower < end {
-        times += 1;
-        if search.ask(question, lower, place, words)? {
+    search.check(question, end.saturating_sub(1), words.len())?;
+    for gates in from..end {
+        if search.ask(question, gates, place, words)? {
             return Ok(Asked {
-                found: true,
-                lower,
-                times,
+                least: Ok(gates),
+                times: gates - from + 1,
             });
         }
-        lower += 1;
     }
     Ok(Asked {
-        found: false,
-        lower,
-        times,
+        least: Err(from.max(end)),
+        times: end.saturating_sub(from),
     })
 }

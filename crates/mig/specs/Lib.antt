@@ -5,3 +5,4 @@ pub mod Questions
 pub mod Normal
 pub mod Refusals
 pub mod Rules
+pub mod Text

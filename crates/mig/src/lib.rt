@@ -4,6 +4,7 @@
 mod network;
 mod question;
 mod refusal;
+mod text;
 
 pub use network::{Gate, Network};
 pub use question::{Limits, Question};

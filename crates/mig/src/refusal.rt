@@ -4,17 +4,17 @@ ghost use Rattle.mig.specs.Refusals.{number_of};
 
 #[derive(Clone, Copy, PartialEq, Eq, Debug)]
 pub enum Refusal {
-    InputsAboveFour,
-    TableBitBeyondRows,
-    DepthLimitAboveSeven,
-    FanOutLimitOutOfRange,
-    GatesAboveReach,
-    TooFewWorkWords,
-    MalformedNetwork,
-    WrongTable,
-    LevelAboveLimit,
-    FanOutAboveLimit,
-    BufferTooShort,
+    InputsAboveFour = 1,
+    TableBitBeyondRows = 2,
+    DepthLimitAboveSeven = 3,
+    FanOutLimitOutOfRange = 4,
+    GatesAboveReach = 5,
+    TooFewWorkWords = 6,
+    MalformedNetwork = 9,
+    WrongTable = 10,
+    LevelAboveLimit = 11,
+    FanOutAboveLimit = 12,
+    BufferTooShort = 14,
 }
 
 impl Refusal {
@@ -22,18 +22,6 @@ impl Refusal {
     pub fn number(self) -> u8
         ensures { result ≡ number_of self }
     {
-        match self {
-            Refusal::InputsAboveFour => 1,
-            Refusal::TableBitBeyondRows => 2,
-            Refusal::DepthLimitAboveSeven => 3,
-            Refusal::FanOutLimitOutOfRange => 4,
-            Refusal::GatesAboveReach => 5,
-            Refusal::TooFewWorkWords => 6,
-            Refusal::MalformedNetwork => 9,
-            Refusal::WrongTable => 10,
-            Refusal::LevelAboveLimit => 11,
-            Refusal::FanOutAboveLimit => 12,
-            Refusal::BufferTooShort => 14,
-        }
+        self as u8
     }
 }

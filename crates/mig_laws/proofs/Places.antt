@@ -1,6 +1,6 @@
--- The seven places of a network, written one after another.
-use Rattle.std.proofs.Common.{◌≡◌, ℕ, suc, ◌+◌, ◌-◌, ◌<◌, List, [], ◌∷◌, ◌++◌, length, set, replicate, sym, refl, ap, ◌∙◌, arith}
-use Rattle.std.proofs.lemmas.List.{append_assoc, set_at, take_at}
+-- The seven places of a network.
+use Rattle.std.proofs.Common.{◌≡◌, ℕ, ◌-◌, List, replicate, refl, ap}
+use Rattle.std.proofs.lemmas.List.{take_at}
 use Rattle.mig.specs.declared.network.Gate.{Gate}
 use Rattle.mig.specs.declared.network.Network.{Network}
 use Rattle.mig.specs.Networks.{Net, net_of, network_of, size, empty_gate}
@@ -9,15 +9,12 @@ pub same_network : {a b o p : ℕ} {gs hs : List Gate} → a ≡ b → gs ≡ hs
     → ◌≡◌ {A = Network} (record { count = a; gates = gs; output = o }) (record { count = b; gates = hs; output = p })
 same_network e f h = rw (e, f, h)
 
--- one gate more is written in front of the empty places
-pub place_more : (gs : List Gate) (g : Gate) (i : ℕ) → length gs ≡ i → i < 7
-    → set (gs ++ replicate (7 - i) empty_gate) i g ≡ (gs ++ (g ∷ [])) ++ replicate (7 - (i + 1)) empty_gate
-place_more gs g i long l =
-    let rest = replicate (7 - (i + 1)) empty_gate in
-    let e : 7 - i ≡ suc (7 - (i + 1)) = omega arith in
-    ap (λ (k : ℕ). set (gs ++ replicate k empty_gate) i g) e
-    ∙ set_at gs empty_gate rest g i long
-    ∙ sym (append_assoc gs (g ∷ []) rest)
+-- a gate of three codes 0
+pub default_gate : (g : Gate) → (g.first ≡ 0) × ((g.second ≡ 0) × (g.third ≡ 0)) → g ≡ empty_gate
+default_gate g h = same h.0 h.1.0 h.1.1
+  where
+    same : {a b c : ℕ} → a ≡ 0 → b ≡ 0 → c ≡ 0 → ◌≡◌ {A = Gate} (record { first = a; second = b; third = c }) empty_gate
+    same e f h = rw (e, f, h)
 
 -- the network that the places stand for, written into places, and back
 pub net_of-network_of : (net : Net) → net_of (network_of net) ≡ net

@@ -6,10 +6,10 @@ use Rattle.std.proofs.lemmas.Bool.Decides.{Decides-and, Decides-like, Decides-at
 use Rattle.mig.specs.declared.network.Network.{Network}
 use Rattle.mig.specs.declared.question.Question.{Question}
 use Rattle.mig.specs.declared.refusal.Refusal.{Refusal}
-use Rattle.mig.specs.declared.refusal.Refusal.TheVariants.{InputsAboveFour, BufferTooShort}
+use Rattle.mig.specs.declared.refusal.Refusal.TheVariants.{InputsAboveFour}
 use Rattle.mig.specs.Networks.{Net, net_of, size, uses, greatest, greatest_fan_out, Formed}
 use Rattle.mig.specs.Questions.{Valid, Within, Meets, IsGreatestFanOut, Computes, level}
-use Rattle.mig.specs.Rules.{refuse_if, or_else, unless_refused, inputs_refusal, table_refusal, question_refusal, network_refusal, form_refusal, walk_refusal, unmet_refusal, examine_refusal, examined, is_formed, is_computed}
+use Rattle.mig.specs.Rules.{refuse_if, or_else, unless_refused, inputs_refusal, table_refusal, question_refusal, network_refusal, form_refusal, unmet_refusal, examine_refusal, examined, is_formed, is_computed}
 use Rattle.mig_laws.proofs.Decisions.{decides_formed, decides_computes, decides_leb, decides_greatest, greatest_above, greatest_attained}
 
 -- there is no refusal
@@ -108,22 +108,11 @@ inputs_not_refused n few = none_if_passing (inputs_refusal n) ((inputs_pass n).1
 pub none_means_formed : (n : ℕ) (network : Network) → network_refusal n network ≡ None → (network.count ≤ 7) × Formed n (net_of network)
 none_means_formed n network e = (network_passes n network).0 (ap passes e)
 
--- twelve places are enough for every network
-twelve_places : (n : ℕ) (network : Network) → walk_refusal n network 12 ≡ form_refusal n network
-twelve_places n network = at (form_refusal n network) refl
-  where
-    at : (o : Option Refusal) → form_refusal n network ≡ o → or_else o (refuse_if (ltb 12 (n + 1 + network.count)) BufferTooShort) ≡ o
-    at (Some e) h = refl
-    at None h =
-        let f = (form_passes n network).0 (ap passes h) in
-        rw (le-ltb 12 (n + 1 + network.count) (omega (arith, f.0, f.1)))
-
--- the answer of a walk over twelve places, where its value is y for up to four inputs
-pub answer_of_walk : {X : Type 0} (n : ℕ) (network : Network) (r : Result X Refusal) (x y : X) → r ≡ unless_refused (walk_refusal n network 12) x → (n ≤ 4 → network.count ≤ 7 → x ≡ y)
+-- the answer of a call on a network, where its value is y for up to four inputs
+pub answer_of_form : {X : Type 0} (n : ℕ) (network : Network) (r : Result X Refusal) (x y : X) → r ≡ unless_refused (form_refusal n network) x → (n ≤ 4 → network.count ≤ 7 → x ≡ y)
     → r ≡ unless_refused (form_refusal n network) y
-answer_of_walk n network r x y h e =
-    h ∙ ap (λ o. unless_refused o x) (twelve_places n network)
-    ∙ unless_same (form_refusal n network) x y (λ o. let f = (form_passes n network).0 (ap passes o) in e f.0 f.1)
+answer_of_form n network r x y h e =
+    h ∙ unless_same (form_refusal n network) x y (λ o. let f = (form_passes n network).0 (ap passes o) in e f.0 f.1)
 
 -- a gate by its node, and by its place
 by_node : (n k : ℕ) (P : ℕ → Type 0) → ((i : ℕ) → i < k → P (n + 1 + i)) → (j : ℕ) → n < j → j < n + 1 + k → P j

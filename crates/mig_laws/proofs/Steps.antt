@@ -1,24 +1,18 @@
 -- One step of a walk that writes its values into a row of places.
 use Rattle.std.proofs.Common.{◌≡◌, ℕ, zero, suc, ◌+◌, ◌<◌, ◌≤◌, cond, List, [], ◌∷◌, ◌++◌, length, get_or, take, drop, set, sym, ap, ◌∙◌, subst, ap₂, add_assoc, arith}
-use Rattle.std.proofs.lemmas.List.{append_assoc, take_more, drop_more, set_at, get_or_append_left, get_or-take, length-take-le}
+use Rattle.std.proofs.lemmas.List.{append_assoc, take_more, drop_more, set_at, get_or_append_left, length-take-le}
 use Rattle.mig.specs.declared.network.Gate.{Gate}
 use Rattle.mig.specs.Networks.{Kind, node, complemented, empty_gate, value_at, gate_value, walk, GateBelow, Ordered}
 use Rattle.mig_laws.proofs.Walks.{walk-append, length-walk}
 
 -- the gate at place i names nodes below m + i
-ordered_at : (m i : ℕ) (gs : List Gate) → Ordered m gs → i < length gs → GateBelow (m + i) (get_or gs i empty_gate)
+pub ordered_at : (m i : ℕ) (gs : List Gate) → Ordered m gs → i < length gs → GateBelow (m + i) (get_or gs i empty_gate)
 unfolding Ordered
 ordered_at m i [] h l = absurd (omega arith)
 ordered_at m zero (g ∷ gs) h l = let e : m ≡ m + 0 = omega arith in subst (λ (k : ℕ). GateBelow k g) e h.0
 ordered_at m (suc i) (g ∷ gs) h l =
     let e : (m + 1) + i ≡ m + suc i = omega arith in
     subst (λ (k : ℕ). GateBelow k (get_or gs i empty_gate)) e (ordered_at (m + 1) i gs h.1 (omega arith))
-
--- the same, where the gates are the first k rows
-pub ordered_row : (m i k : ℕ) (rows : List Gate) → Ordered m (take k rows) → i < k → k ≤ length rows → GateBelow (m + i) (get_or rows i empty_gate)
-ordered_row m i k rows h l b =
-    let long = length-take-le k rows b in
-    subst (GateBelow (m + i)) (get_or-take k rows i empty_gate l) (ordered_at m i (take k rows) h (omega arith))
 
 -- a code of a node in front stands for the same, whatever is behind
 pub value_front : {V : Type 0} (k : Kind V) (us ws : List V) (c : ℕ) → node c < length us → value_at k (us ++ ws) c ≡ value_at k us c

@@ -5,33 +5,37 @@ use bound_layer::BoundLayer;
 use classes::representative;
 use enumeration::Enumeration;
 use examine::examine;
-use mig::{Gate, Limits, Network, Question, Refusal};
+use mig::{Limits, Network, Question, Refusal};
 use search::Search;
 use split_search::Split;
+use thiserror::Error;
 
-// How many of the gate numbers from 0 to `most` are answered "none", or 9 if a network is given that does not meet the
-// question or has too many gates.
-fn nones<S: Search>(search: &mut S, question: &Question, most: u8) -> Result<u8, Refusal> {
-    let empty = Gate {
-        first: 0,
-        second: 0,
-        third: 0,
-    };
-    let mut place = Network {
-        count: 0,
-        gates: [empty; 7],
-        output: 0,
-    };
-    let mut words = [0u32; 0];
-    let mut none = 0u8;
-    for gates in 0..most.saturating_add(1) {
-        if !search.ask(question, gates, &mut place, &mut words)? {
-            none = none.saturating_add(1);
-        } else if place.count > gates || examine(question, &place).is_err() {
-            return Ok(9);
-        }
+// Why it is not known how many gates a question needs, and the mark that is written in their place.
+#[derive(Clone, Copy, Debug, Error)]
+enum Fault {
+    #[error("?")]
+    Refused(#[from] Refusal),
+    #[error("9")]
+    BadNetwork,
+}
+
+// Whether no network of at most `gates` gates is found. One that is given has to meet the question.
+fn is_none<S: Search>(search: &mut S, question: &Question, gates: u8) -> Result<bool, Fault> {
+    let mut place = Network::default();
+    if !search.ask(question, gates, &mut place, &mut [])? {
+        return Ok(true);
     }
-    Ok(none)
+    if place.count > gates || examine(question, &place).is_err() {
+        return Err(Fault::BadNetwork);
+    }
+    Ok(false)
+}
+
+// How many of the gate numbers from 0 to `most` are answered "none".
+fn nones<S: Search>(search: &mut S, question: &Question, most: u8) -> Result<u8, Fault> {
+    (0..=most).try_fold(0u8, |none, gates| {
+        Ok(none.saturating_add(u8::from(is_none(search, question, gates)?)))
+    })
 }
 
 // Writes a line of digits, one for each table over three inputs: the fewest gates within the limits, 4 if three do not
@@ -45,7 +49,7 @@ fn write_minima<S: Search>(rt: &HostRuntime, search: &mut S, limits: Limits) -> 
         };
         match nones(search, &question, 3) {
             Ok(least) => print!(rt; "{least}")?,
-            Err(_) => print!(rt; "?")?,
+            Err(fault) => print!(rt; "{fault}")?,
         }
     }
     println!(rt; "")?;
@@ -69,22 +73,16 @@ fn write_classes<S: Search>(rt: &HostRuntime, search: &mut S) -> anyhow::Result<
         depth: 7,
         fan_out: 19,
     };
-    for table in 0..65536 {
+    for table in (0..=u16::MAX).filter(|&table| representative(4, u32::from(table)) == Ok(table)) {
         let question = Question {
             inputs: 4,
-            table,
+            table: u32::from(table),
             limits,
         };
-        let least = match representative(4, table) {
-            Ok(g) if u32::from(g) == table => nones(search, &question, 4),
-            _ => continue,
-        };
-        match least {
-            Ok(gates) if gates < 5 => {
-                let i = gates as usize;
-                classes[i] = classes[i].saturating_add(1);
-            }
-            _ => {}
+        if let Ok(gates) = nones(search, &question, 4)
+            && let Some(count) = classes.get_mut(usize::from(gates))
+        {
+            *count = count.saturating_add(1);
         }
     }
     let [none, one, two, three, four] = classes;

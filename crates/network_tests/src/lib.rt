@@ -10,6 +10,7 @@ mod tests {
     use std::test::Fail;
     use walk::walk;
 
+    // Like `gate` of crate known_cells: a public constructor would only leave out the names of the fields.
     const fn gate(first: u8, second: u8, third: u8) -> Gate {
         Gate {
             first,
@@ -20,19 +21,12 @@ mod tests {
 
     // The parity of the first three inputs, over n inputs; `count` gates are said to be there.
     fn parity(inputs: u8, count: u8) -> Network {
-        let empty = gate(0, 0, 0);
         let shift = if inputs == 4 { 2 } else { 0 };
+        let mut gates = [Gate::default(); 7];
+        gates[..3].copy_from_slice(&[gate(2, 4, 6), gate(2, 4, 7), gate(9 + shift, 10 + shift, 6)]);
         Network {
             count,
-            gates: [
-                gate(2, 4, 6),
-                gate(2, 4, 7),
-                gate(9 + shift, 10 + shift, 6),
-                empty,
-                empty,
-                empty,
-                empty,
-            ],
+            gates,
             output: 12 + shift,
         }
     }
@@ -55,11 +49,9 @@ mod tests {
         let network = parity(3, 3);
         let given = [true, true, false, true, true, true, true];
         let mut values = given;
-        assert!(rt;
-            matches!(
-                walk(3, &network, &mut values[0..6]),
-                Err(Refusal::BufferTooShort)
-            )
+        assert_eq!(rt;
+            walk(3, &network, &mut values[..6]),
+            Err(Refusal::BufferTooShort)
         );
         assert_eq!(rt; values, given);
         assert_eq!(rt; walk(3, &network, &mut values)?, false);
@@ -79,13 +71,14 @@ mod tests {
         };
         for count in 8..=255 {
             let network = parity(3, count);
-            assert!(rt; matches!(examine(&question, &network), Err(Refusal::MalformedNetwork)));
-            assert!(rt; matches!(level(3, &network), Err(Refusal::MalformedNetwork)));
-            assert!(rt;
-                matches!(
-                    greatest_fan_out(3, &network),
-                    Err(Refusal::MalformedNetwork)
-                )
+            assert_eq!(rt;
+                examine(&question, &network),
+                Err(Refusal::MalformedNetwork)
+            );
+            assert_eq!(rt; level(3, &network), Err(Refusal::MalformedNetwork));
+            assert_eq!(rt;
+                greatest_fan_out(3, &network),
+                Err(Refusal::MalformedNetwork)
             );
         }
         assert_eq!(rt; examine(&question, &parity(3, 7))?, (2, 1));

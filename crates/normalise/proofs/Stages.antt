@@ -20,10 +20,6 @@ more n i net = ap (λ (k : ℕ). first_normalised n k net) (sym (add-one i))
 pub stage_size : (n i : ℕ) (net : Net) → Formed n net → i ≤ size net → size (first_normalised n i net) ≡ size net
 stage_size n i net h l = same_size net (first_normalised n i net) (first_normalised_lem n i net h l).nodes
 
--- a stage stands in its places
-pub stage_places : (net : Net) (normal : Network) → normal ≡ network_of net → normal ≡ network_of (net_of normal)
-stage_places net normal e = e ∙ ap network_of (sym (ap net_of e ∙ net_of-network_of net))
-
 -- the gate that a stage comes to
 pub stage_gate : (net : Net) (normal : Network) (i : ℕ) → normal ≡ network_of net → i < size net → complements (get_or normal.gates i empty_gate) ≡ complements (gate_at net i)
 stage_gate net normal i e h = ap (λ (m : Network). complements (get_or m.gates i empty_gate)) e ∙ ap complements (gate_read net i h)

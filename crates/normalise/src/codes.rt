@@ -23,14 +23,16 @@ pub(crate) fn flipped_naming(code: u8, node: u8) -> u8
     }
 }
 
-// The gate with its three fan-ins flipped.
-pub(crate) fn gate_flipped(gate: Gate) -> Gate
-    ensures { result ≡ map_gate flip gate }
+// The gate with each of its three codes changed.
+// Like `rename_gates` of crate carrying; both are private, since a public function over a closure has a precondition.
+fn map_codes<F: Fn(u8) -> u8>(gate: Gate, change: F) -> Gate
+    requires { F.IsAlwaysCallable change }
+    ensures { F.post change gate.first result.first × (F.post change gate.second result.second × F.post change gate.third result.third) }
 {
     Gate {
-        first: flipped(gate.first),
-        second: flipped(gate.second),
-        third: flipped(gate.third),
+        first: change(gate.first),
+        second: change(gate.second),
+        third: change(gate.third),
     }
 }
 
@@ -38,11 +40,14 @@ pub(crate) fn gate_flipped(gate: Gate) -> Gate
 pub(crate) fn gate_flipped_naming(gate: Gate, node: u8) -> Gate
     ensures { result ≡ map_gate (flip_naming node) gate }
 {
-    Gate {
-        first: flipped_naming(gate.first, node),
-        second: flipped_naming(gate.second, node),
-        third: flipped_naming(gate.third, node),
-    }
+    map_codes(gate, |code| flipped_naming(code, node))
+}
+
+// The gate with its three fan-ins flipped.
+pub(crate) fn gate_flipped(gate: Gate) -> Gate
+    ensures { result ≡ map_gate flip gate }
+{
+    map_codes(gate, flipped)
 }
 
 // How many of the gate's fan-ins are complemented.

@@ -16,23 +16,14 @@ fn cleared(network: &Network) -> Network
     requires { network.now.count ≤ 7 }
     ensures { result ≡ network_of (net_of network.now) }
 {
-    let empty = Gate {
-        first: 0,
-        second: 0,
-        third: 0,
-    };
-    let mut gates = [empty; 7];
-    for i in 0..network.count as usize {
-        gates[i] = network.gates[i];
-    }
-    Network {
-        count: network.count,
-        gates,
-        output: network.output,
-    }
+    // Two lines of the library, as in two other crates: a public function would have to answer for eight gates too.
+    let mut gates = [Gate::default(); 7];
+    gates[..usize::from(network.count)].copy_from_slice(network.gates());
+    Network { gates, ..*network }
 }
 
 // The network with the fan-ins of the gate at `place` flipped, and every code that names the gate.
+// Four private functions, in three crates, ask for `inputs ≤ 4`: a type that says so would be made at each public call.
 fn turned(inputs: u8, place: u8, network: Network) -> Network
     requires inputs { inputs ≤ 4 }
     requires place { place < network.count }
@@ -42,8 +33,8 @@ fn turned(inputs: u8, place: u8, network: Network) -> Network
 {
     let node = inputs + 1 + place;
     let mut gates = network.gates;
-    for i in 0..network.count as usize {
-        gates[i] = gate_flipped_naming(network.gates[i], node);
+    for gate in &mut gates {
+        *gate = gate_flipped_naming(*gate, node);
     }
     gates[place as usize] = gate_flipped(network.gates[place as usize]);
     Network {
@@ -64,6 +55,7 @@ pub fn normalise(inputs: u8, network: &Network) -> Result<Network, Refusal>
 {
     check_network(inputs, network)?;
     let mut normal = cleared(network);
+    // The places are counted: a turned gate changes the gates behind it, which an iterator would not see.
     for i in 0..network.count {
         if complements(normal.gates[i as usize]) >= 2 {
             normal = turned(inputs, i, normal);

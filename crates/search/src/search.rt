@@ -1,8 +1,10 @@
 // What a search is: any type whose `ask` means what the clauses say.
-ghost use Rattle.std.specs.Prelude.{◌≡◌, ℕ, ◌≤◌, length, MatchResult};
-ghost use Rattle.mig.specs.Rules.{refused_by};
+ghost use Rattle.std.specs.Prelude.{◌≡◌, ℕ, ◌≤◌, length, MatchResult, OnOk};
+ghost use Rattle.mig.specs.Questions.{Valid};
+ghost use Rattle.mig.specs.Rules.{unless_refused, refused_by};
 ghost use Rattle.search.specs.Meaning.{count_stop, raised, ask_refusal, Outcome};
 
+use crate::admission::check_ask;
 use mig::{Network, Question, Refusal};
 
 // A search answers whether a question can be met with at most some number of gates. Left open are the found network and
@@ -26,7 +28,17 @@ pub trait Search {
     fn count(&self) -> u32
         ensures { result ≡ count self.now };
 
+    // The refusal of a question and a number of work words, if there is one.
+    fn check(&self, question: &Question, gates: u8, words: usize) -> Result<(), Refusal>
+        ensures answer { result ≡
+            unless_refused (ask_refusal question.now gates (reach self.now) (need self.now) words) tt }
+        ensures accepted { OnOk result (Valid question.now × (gates ≤ reach self.now) × (need self.now ≤ words)) }
+    {
+        check_ask(question, gates, self.reach(), self.need(), words)
+    }
+
     // Whether a network of at most `gates` gates meets the question; if so, such a network is in the place.
+    // By a rule of the project the place and the words are lent, so the network is not in the answer.
     fn ask(
         &mut self,
         question: &Question,

@@ -1,31 +1,30 @@
 // The split search of any two searches: few gates go to the first, more to the second.
 #![tactic(auto)]
 
-ghost use Rattle.std.specs.Prelude.{◌≡◌, ◌≤◌, max, leb};
+ghost use Rattle.std.specs.Prelude.{◌≡◌, max, leb};
 ghost use Rattle.std.proofs.Common.{rules};
 
 use mig::{Network, Question, Refusal};
-use search::{Search, check_ask};
+use search::{Count, Search};
 
 // Two searches, held by value, and the count of the questions taken.
 #[derive(Drop)]
 pub struct Split<A, B> {
     pub first: A,
     pub second: B,
-    count: u32,
-    ghost stops: { count ≤ 4294967295 },
+    count: Count,
 }
 
 impl<A, B> Split<A, B> {
     // The split search of two searches, which has taken no question yet.
     pub fn new(first: A, second: B) -> Split<A, B>
         ensures holds_both { (result.first ≡ first) × (result.second ≡ second) }
-        ensures no_question_taken { result.count ≡ 0 }
+        ensures no_question_taken { result.count.number ≡ 0 }
     {
         Split {
             first,
             second,
-            count: 0,
+            count: Count::new(),
         }
     }
 }
@@ -44,7 +43,7 @@ impl<A: Search, B: Search> Search for Split<A, B> {
 
     ghost need = { λ s. max (A.Search.need s.first) (B.Search.need s.second) };
 
-    ghost count = { λ s. s.count };
+    ghost count = { λ s. s.count.number };
 
     ghost reach_at_most_seven = { Prim.search rules };
 
@@ -59,9 +58,10 @@ impl<A: Search, B: Search> Search for Split<A, B> {
     }
 
     fn count(&self) -> u32 {
-        self.count
+        self.count.number()
     }
 
+    // By a rule of the project the place and the words are lent.
     fn ask(
         &mut self,
         question: &Question,
@@ -69,13 +69,12 @@ impl<A: Search, B: Search> Search for Split<A, B> {
         place: &mut Network,
         words: &mut [u32],
     ) -> Result<bool, Refusal> {
-        check_ask(question, gates, self.reach(), self.need(), words.len())?;
-        let found = if self.goes_to_first(gates) {
-            self.first.ask(question, gates, place, words)?
+        self.check(question, gates, words.len())?;
+        self.count.raise();
+        if self.goes_to_first(gates) {
+            self.first.ask(question, gates, place, words)
         } else {
-            self.second.ask(question, gates, place, words)?
-        };
-        self.count = self.count.saturating_add(1);
-        Ok(found)
+            self.second.ask(question, gates, place, words)
+        }
     }
 }

@@ -4,13 +4,16 @@ use mathlib.Core.Bool.{beq}
 use native.Mathlib.Nat.{pow-succ', div-eq_of_lt}
 use lib.Bits.{bit_xor, xor_lt}
 use lib.Pow.{pow-lt, shl-shr}
+use Rattle.std.specs.List.{list_any, range_with_len}
+use Rattle.std.proofs.lemmas.List.Folds.{Any-from_list_any, list_any_at}
+use Rattle.std.proofs.lemmas.List.FromFn.{length-range_with_len, get_or-range_with_len}
 use Rattle.std.proofs.lemmas.Bool.{eq-eqb, ne_eqb, cases_eq, cases_lt}
-use Rattle.std.proofs.lemmas.Bool.Decides.{Decides-at, Decides-like, Decides-not, Decides-below_or}
+use Rattle.std.proofs.lemmas.Bool.Decides.{Decides-at, Decides-like, Decides-not}
 use Rattle.mig.specs.Tables.{bit_at}
 use Rattle.mig_laws.proofs.Bits.{bit_at_xor}
 use Rattle.mig_laws.proofs.Decisions.{decides_beq}
 use Rattle.mig_laws.proofs.Tables.{bits_same, bit_at_table, table_below}
-use Rattle.support_laws.specs.Support.{Depends, some_below, changes_at, depends_at, support_mask, support_size, CountsInputs}
+use Rattle.support_laws.specs.Support.{Depends, changes_at, depends_at, support_mask, support_size, CountsInputs}
 
 -- the one bit that is set in a power of two
 bit_at_power : (k j : ℕ) → bit_at (2 ^ k) j ≡ eqb j k
@@ -60,9 +63,24 @@ row_complemented n k s t h p q alone d =
     at j l (inl i) = rw i (bit_complemented s k ∙ not_from_different (bit_at s k) (bit_at t k) apart)
     at j l (inr i) = bit_other s k j i ∙ alone j l i
 
+-- whether some number below m passes the test decides whether one of them has what the test decides
+decides_any : (p : ℕ → Bool) (P : ℕ → Type 0) (m : ℕ) → ((t : ℕ) → Decides (p t) (P t))
+    → Decides (list_any p (range_with_len 0 m)) ((t : ℕ) × (t < m) × P t)
+decides_any p P m each = (there, back)
+  where
+    there : list_any p (range_with_len 0 m) ≡ true → (t : ℕ) × (t < m) × P t
+    there e =
+        let w = Any-from_list_any p (range_with_len 0 m) e in
+        let l : w.0 < m = omega (arith, w.2, length-range_with_len 0 m) in
+        (w.1, omega (arith, w.3, get_or-range_with_len 0 m w.0 w.1 l), (each w.1).0 w.4)
+
+    back : (t : ℕ) × (t < m) × P t → list_any p (range_with_len 0 m) ≡ true
+    back (t, l, h) =
+        list_any_at p (range_with_len 0 m) t 0 (omega (arith, length-range_with_len 0 m))
+        (rw (get_or-range_with_len 0 m t 0 l, zero-add t) ((each t).1 h))
+
 -- the test decides whether the table depends on an input
 pub decides_depends : (n table k : ℕ) → k < n → Decides (depends_at n table k) (Depends n table (k + 1))
-unfolding some_below
 decides_depends n table k h =
     Decides-like (depends_at n table k)
     (λ (t, l, d). record {
@@ -74,8 +92,9 @@ decides_depends n table k h =
       differ = d;
     })
     (λ d. (d.row, d.row_below, λ e. d.differ (e ∙ ap (bit_at table) (row_complemented n k d.row d.other h d.row_below d.other_below (λ j l i. d.alone j l (λ a. i (omega arith))) (λ s. d.differ (ap (bit_at table) s))))))
-    (Decides-below_or (changes_at table k) (λ t. bit_at table t ≡ bit_at table (bit_xor t (2 ^ k)) → ⊥) (λ m. some_below m (changes_at table k))
-    (λ t. Decides-not (beq (bit_at table t) (bit_at table (bit_xor t (2 ^ k)))) (decides_beq (bit_at table t) (bit_at table (bit_xor t (2 ^ k))))) refl (λ _. refl) (2 ^ n))
+    (decides_any (changes_at table k) (λ t. bit_at table t ≡ bit_at table (bit_xor t (2 ^ k)) → ⊥) (2 ^ n)
+    (λ t. Decides-not (beq (bit_at table t) (bit_at table (bit_xor t (2 ^ k))))
+    (decides_beq (bit_at table t) (bit_at table (bit_xor t (2 ^ k))))))
 
 -- the size of the support counts the inputs on which the table depends
 pub support_counts : (n table : ℕ) → CountsInputs n table (support_size n table)

@@ -1,6 +1,7 @@
 -- The support of a table: the inputs on which it depends, and how many they are.
-use Rattle.std.specs.Prelude.{◌≡◌, ℕ, zero, suc, ◌+◌, ◌-◌, ◌*◌, ◌^◌, ◌<◌, ◌≤◌, Bool, false, not, ◌||◌, Decides, ◌≢◌, bit_xor, count_ones}
+use Rattle.std.specs.Prelude.{◌≡◌, ℕ, ◌+◌, ◌-◌, ◌*◌, ◌^◌, ◌<◌, ◌≤◌, Bool, not, Decides, ◌≢◌, bit_xor, count_ones}
 use Rattle.std.specs.Bool.{beq}
+use Rattle.std.specs.List.{list_any, range_with_len}
 use Rattle.mig.specs.Networks.{Net, Formed, size}
 use Rattle.mig.specs.Tables.{bit_at, table_from}
 use Rattle.mig.specs.Questions.{Computes, level}
@@ -14,18 +15,13 @@ pub record Depends (n table i : ℕ) : Type 0 where
   pub alone : (j : ℕ) → j < n → (j + 1 ≢ i) → bit_at row j ≡ bit_at other j
   pub differ : bit_at table row ≡ bit_at table other → ⊥
 
--- some number below m passes the test
-unfoldable pub some_below : ℕ → (ℕ → Bool) → Bool
-some_below zero p = false
-some_below (suc m) p = p m || some_below m p
-
 -- the table changes in row t when the input k + 1 is complemented
 abbrev pub changes_at : ℕ → ℕ → ℕ → Bool
 changes_at table k t = not (beq (bit_at table t) (bit_at table (bit_xor t (2 ^ k))))
 
 -- the test whether the table over n inputs depends on the input k + 1: it changes in some row
 abbrev pub depends_at : ℕ → ℕ → ℕ → Bool
-depends_at n table k = some_below (2 ^ n) (changes_at table k)
+depends_at n table k = list_any (changes_at table k) (range_with_len 0 (2 ^ n))
 
 -- the number of n bits whose bit k is set where the table depends on the input k + 1
 abbrev pub support_mask : ℕ → ℕ → ℕ

@@ -37,14 +37,13 @@ fn gate_value<V: ValueKind>(values: &[V], gate: Gate) -> V
 }
 
 // Writes the value of each gate behind the values of the first `before` nodes, the constant and the inputs.
-fn write_gates<V: ValueKind>(network: &Network, before: usize, values: &mut [V])
-    requires few { network.now.count ≤ 7 }
-    requires long { before + network.now.count ≤ length values.old }
-    requires ordered { Ordered before (take network.now.count network.now.gates) }
-    ensures { values.new ≡ walked V.kind (take before values.old) (take network.now.count network.now.gates) ++ drop (before + network.now.count) values.old }
+fn write_gates<V: ValueKind>(gates: &[Gate], before: usize, values: &mut [V])
+    requires long { before + length gates.now ≤ length values.old }
+    requires ordered { Ordered before gates.now }
+    ensures { values.new ≡ walked V.kind (take before values.old) gates.now ++ drop (before + length gates.now) values.old }
 {
-    for i in 0..network.count as usize {
-        values[before + i] = gate_value(values, network.gates[i]);
+    for (i, gate) in gates.iter().enumerate() {
+        values[before + i] = gate_value(values, *gate);
     }
 }
 
@@ -61,6 +60,6 @@ pub fn walk<V: ValueKind>(inputs: u8, network: &Network, values: &mut [V]) -> Re
         return Err(Refusal::BufferTooShort);
     }
     values[0] = V::constant();
-    write_gates(network, before, values);
+    write_gates(network.gates(), before, values);
     Ok(code_value(values, network.output))
 }

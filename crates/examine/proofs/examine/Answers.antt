@@ -1,31 +1,12 @@
-use Rattle.std.proofs.Common.{◌≡◌, ◌%◌, true, false, eqb, None, Err, sym, ap, ◌∙◌}
-use Rattle.std.proofs.lemmas.Result.{err_from_is_err_and}
+use Rattle.std.proofs.Common.{rules, ◌%◌, true, false, eqb, Err}
 use Rattle.std.proofs.lemmas.Bool.{lt-ltb, le-ltb}
 use Rattle.mig.specs.declared.refusal.Refusal.TheVariants.{WrongTable, LevelAboveLimit, FanOutAboveLimit}
-use Rattle.mig.specs.Rules.{question_refusal, examined}
-use Rattle.mig_laws.proofs.Refusals.{none_from_ok}
-use Rattle.examine.proofs.Answered.{accepted_when_met, pair_told, bad_question, malformed, Learnt, learnt, wrong_table, too_deep, shallow}
+use Rattle.examine.proofs.Answered.{accepted_when_met, pair_told, Learnt, learnt, wrong_table, too_deep, shallow}
 use Rattle.examine.proofs.examine.Goals as goal
 use Rattle.examine.proofs.examine.Goals.{In_ok-tables}
 
-pub returns-in_err-check_question : goal.returns-in_err-check_question
-returns-in_err-check_question c =
-    let q = c.args.question.now in
-    let network = c.args.network.now in
-    let p = err_from_is_err_and c.from_residual.result c.from_residual.ensures.1 in
-    let a : c.from_residual.result ≡ examined q network =
-    p.1 ∙ ap Err p.2 ∙ sym (bad_question q network tt c.in_err-check_question.field-0.0 c.in_err-check_question.ensures.answer) in
-    record { answer = a; accepted_exactly_when_met = accepted_when_met q network _ a; level_and_greatest_fan_out = pair_told q network _ a }
-
-pub returns-in_err-computed : goal.returns-in_err-computed
-returns-in_err-computed c =
-    let q = c.args.question.now in
-    let network = c.args.network.now in
-    let p = err_from_is_err_and c.from_residual-in_err-computed.result c.from_residual-in_err-computed.ensures.1 in
-    let o : question_refusal q ≡ None = none_from_ok (question_refusal q) tt tt c.in_ok-check_question.ensures.answer in
-    let a : c.from_residual-in_err-computed.result ≡ examined q network =
-    p.1 ∙ ap Err p.2 ∙ sym (malformed q network _ c.in_err-computed.field-0.0 o c.in_err-computed.ensures.answer) in
-    record { answer = a; accepted_exactly_when_met = accepted_when_met q network _ a; level_and_greatest_fan_out = pair_told q network _ a }
+pub returns-in_err-computed-clause-accepted_exactly_when_met : goal.returns-in_err-computed-clause-accepted_exactly_when_met
+returns-in_err-computed-clause-accepted_exactly_when_met c = accepted_when_met c.args.question.now c.args.network.now _ (search rules)
 
 -- what is known once the table is compared
 compared : (c : In_ok-tables) → Learnt c.args.question.now c.args.network.now (eqb (c.in_ok-computed.computed.rows % c.in_ok-tables.tables) c.args.question.now.table)

@@ -1,31 +1,26 @@
-use Rattle.std.proofs.Common.{◌≡◌, ℕ, ◌+◌, ◌<◌, ◌≤◌, List, [], ◌∷◌, ◌++◌, length, get_or, take, refl, ap, ◌∙◌, arith, length-take}
-use Rattle.std.proofs.lemmas.List.{take_more, get_or-take, take_all}
-use Rattle.mig.specs.declared.network.Gate.{Gate}
-use Rattle.mig.specs.Networks.{empty_gate, names, uses_in}
-use Rattle.mig_laws.proofs.Walks.{uses_in-append}
+use Rattle.std.proofs.Common.{◌≡◌, rules, arith, sym, ap, ◌∙◌}
+use Rattle.std.proofs.lemmas.Iterator.{YieldsList-from_slice, YieldsList-from_map}
+use Rattle.std.proofs.lemmas.Iterator.Consumers.{sum_by_from_yields_List, fits_by_from_yields_list}
+use Rattle.mig.specs.Networks.{uses_in}
+use Rattle.fan_outs.proofs.Sums.{gate_names, uses_as_sum, uses_bound, names_bound}
 use Rattle.fan_outs.proofs.fan_out.Goals as goal
 
--- the uses by one gate more
-more : (j i k : ℕ) (rows : List Gate) → i < k → k ≤ length rows
-    → uses_in j (take (i + 1) (take k rows)) ≡ uses_in j (take i (take k rows)) + (names j (get_or rows i empty_gate).first + names j (get_or rows i empty_gate).second + names j (get_or rows i empty_gate).third)
-unfolding uses_in
-more j i k rows h l =
-    let b : i < length (take k rows) = simp length-take (omega arith) in
-    ap (uses_in j) (take_more (take k rows) i empty_gate b ∙ ap (λ g. take i (take k rows) ++ g ∷ []) (get_or-take k rows i empty_gate h))
-    ∙ uses_in-append j (take i (take k rows)) (get_or rows i empty_gate ∷ [])
-    ∙ omega arith
+pub sum-fan_ins-requires-clause-fits : goal.sum-fan_ins-requires-clause-fits
+sum-fan_ins-requires-clause-fits c =
+    fits_by_from_yields_list (gate_names c.args.node) c.gates.result.now c.map.result 256
+    (YieldsList-from_map _ (gate_names c.args.node) (YieldsList-from_slice c.gates.result.now cc) c.map.ensures.closure (λ x r q k. search rules))
+    (omega (arith, c.gates.ensures.counted_up_to_seven, uses_as_sum c.args.node c.gates.result.now, uses_bound c.args.node c.gates.result.now))
 
-pub loop-i-init : goal.loop-i-init
-unfolding uses_in
-loop-i-init c = (refl, omega arith)
+-- the sum is that of the uses by all gates
+summed : (c : goal.After-code_uses) → c.sum-fan_ins.result ≡ uses_in c.args.node c.gates.result.now
+summed c =
+    sum_by_from_yields_List (gate_names c.args.node) c.gates.result.now c.map.result c.sum-fan_ins.result c.sum-fan_ins.ensures.ran
+    (YieldsList-from_map _ (gate_names c.args.node) (YieldsList-from_slice c.gates.result.now cc) c.map.ensures.closure (λ x r q k. search rules))
+    ∙ sym (uses_as_sum c.args.node c.gates.result.now)
 
-pub loop-i-preserved : goal.loop-i-preserved
-loop-i-preserved c =
-    let m = more c.args.node c.loop-i.i c.args.network.now.count c.args.network.now.gates c.loop-i-test.true (omega arith) in
-    (omega (arith, m, c.loop-i.invariant.0, c.gate_uses-total.ensures.count), omega (arith, c.loop-i.invariant.1, c.gate_uses-total.ensures.bound))
+pub overflow_add-result : goal.overflow_add-result
+overflow_add-result c =
+    omega (arith, c.gates.ensures.counted_up_to_seven, summed c, uses_bound c.args.node c.gates.result.now, c.code_uses.ensures, names_bound c.args.node c.args.network.now.output)
 
 pub returns : goal.returns
-returns c =
-    let gs = take c.args.network.now.count c.args.network.now.gates in
-    let e = ap (uses_in c.args.node) (take_all c.loop-i.i gs (simp length-take (omega arith))) in
-    omega (arith, e, c.loop-i.invariant.0, c.code_uses.ensures)
+returns c = omega (arith, summed c, ap (uses_in c.args.node) c.gates.ensures.gates, c.code_uses.ensures)

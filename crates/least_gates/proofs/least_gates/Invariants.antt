@@ -3,17 +3,12 @@ use Rattle.search.specs.Meaning.{raised}
 use Rattle.least_gates.specs.Asked.{NoneFrom}
 use Rattle.least_gates.proofs.least_gates.Given as goal
 
--- the numbers before `lower` are asked and answered "none"
-abbrev pub invariant-loop-lower : goal.invariant-loop-lower
-invariant-loop-lower g l =
-    (l.from ≤ l.lower)
-    × (l.lower ≤ max l.from l.end)
-    × (l.times ≡ l.lower - l.from)
+-- the numbers before `gates` are asked and answered "none"
+abbrev pub invariant-loop-gates : goal.invariant-loop-gates
+invariant-loop-gates g l =
+    (l.gates ≤ max l.from l.end)
     × (l.place ≡ l.initial.place)
-    × NoneFrom l.question l.from l.lower
+    × NoneFrom l.question l.from l.gates
     × (g.S.Search.reach l.search ≡ g.S.Search.reach l.initial.search)
     × (g.S.Search.need l.search ≡ g.S.Search.need l.initial.search)
-    × (g.S.Search.count l.search ≡ raised (g.S.Search.count l.initial.search) l.times)
-
-abbrev pub decreases-loop-lower : goal.decreases-loop-lower
-decreases-loop-lower g l = l.end - l.lower
+    × (g.S.Search.count l.search ≡ raised (g.S.Search.count l.initial.search) (l.gates - l.from))

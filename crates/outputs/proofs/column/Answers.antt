@@ -1,14 +1,12 @@
-use Rattle.std.proofs.Common.{◌≡◌, ℕ, ◌<◌, List, [], ◌∷◌, IfOk, Some, None, Option, sym, ap, ◌∙◌, subst, zero-add}
+use Rattle.std.proofs.Common.{◌≡◌, ℕ, ◌<◌, IfOk, Some, None, Option, sym, ap, ◌∙◌, subst, zero-add}
 use Rattle.mig.specs.declared.refusal.Refusal.{Refusal}
-use Rattle.mig.specs.Networks.{Net, net_of, output_value}
+use Rattle.mig.specs.Networks.{Net, net_of}
 use Rattle.mig.specs.Tables.{bit_at, table_from}
 use Rattle.mig.specs.Questions.{row_bit}
 use Rattle.mig.specs.Rules.{form_refusal, unless_refused}
-use Rattle.mig_laws.proofs.Refusals.{answer_of_walk}
+use Rattle.mig_laws.proofs.Refusals.{answer_of_form}
 use Rattle.mig_laws.proofs.Tables.{bit_at_table}
 use Rattle.value_kinds.specs.declared.kinds.Column.{Column}
-use Rattle.value_kinds.specs.Kinds.{columns}
-use Rattle.walk.specs.Places.{start_of}
 use Rattle.outputs.proofs.ByKind.{column_output}
 use Rattle.outputs.proofs.column.Goals as goal
 
@@ -23,11 +21,8 @@ pub returns : goal.returns
 returns c =
     let n = c.args.inputs in
     let network = c.args.network.now in
-    let rest : List Column = column 0 ∷ column 0 ∷ column 0 ∷ column 0 ∷ column 0 ∷ column 0 ∷ column 0 ∷ [] in
-    let value : Column = output_value columns (start_of columns n (column 0 ∷ column 0xaaaa ∷ column 0xcccc ∷ column 0xf0f0 ∷ column 0xff00 ∷ rest)) (net_of network) in
-    let a : c.walk.result ≡ unless_refused (form_refusal n network) (column (table_from 16 0 (row_bit n (net_of network)))) =
-    answer_of_walk n network c.walk.result value (column (table_from 16 0 (row_bit n (net_of network)))) c.walk.ensures.answer
-    (λ h _. column_output n (net_of network) rest h) in
+    let a : c.output.result ≡ unless_refused (form_refusal n network) (column (table_from 16 0 (row_bit n (net_of network)))) =
+    answer_of_form n network c.output.result _ (column (table_from 16 0 (row_bit n (net_of network)))) c.output.ensures (λ h _. column_output n (net_of network) h) in
     record {
       answer = a;
       agrees_with_row_bits = subst (λ r. IfOk r (λ v. (t : ℕ) → t < 16 → bit_at v.rows t ≡ row_bit n (net_of network) t)) (sym a) (agrees (form_refusal n network) n (net_of network));

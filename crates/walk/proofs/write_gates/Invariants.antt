@@ -6,5 +6,5 @@ use Rattle.walk.proofs.write_gates.Given as goal
 abbrev pub invariant-loop-i : goal.invariant-loop-i
 invariant-loop-i g l =
     l.values
-    ≡ walk g.V.ValueKind.kind (take l.before l.initial.values) (take l.i (take l.network.count l.network.gates))
+    ≡ walk g.V.ValueKind.kind (take l.before l.initial.values) (take l.i l.gates)
     ++ drop (l.before + l.i) l.initial.values

@@ -4,30 +4,21 @@ use Rattle.mig.specs.Networks.{net_of, network_of, size}
 use Rattle.mig.specs.Normal.{first_normalised, normalised}
 use Rattle.mig.specs.Rules.{form_refusal}
 use Rattle.mig_laws.proofs.Refusals.{none_from_ok}
-use Rattle.normalise.proofs.Stages.{stage_size, stage_places, stage_gate, stage_turned, stage_kept, result}
+use Rattle.normalise.proofs.Stages.{stage_size, stage_gate, stage_turned, stage_kept, result}
 use Rattle.normalise.proofs.normal_form.normalise.Goals as goal
 use Rattle.normalise.proofs.normal_form.normalise.Goals.{then-complements-ge2, else-complements-ge2}
-
-pub cleared-normal-requires : goal.cleared-normal-requires
-cleared-normal-requires c = (c.in_ok-check_network.ensures.accepted_exactly_when_formed.0 (refl {a = true})).1
 
 pub loop-i-init : goal.loop-i-init
 unfolding first_normalised
 loop-i-init c = c.cleared-normal.ensures
 
-pub turned-normal-requires : goal.turned-normal-requires
-turned-normal-requires c =
+pub turned-normal-requires-clause-few : goal.turned-normal-requires-clause-few
+turned-normal-requires-clause-few c =
     let f = c.in_ok-check_network.ensures.accepted_exactly_when_formed.0 (refl {a = true}) in
     let net = net_of c.args.network.now in
-    let z = c.in_ok-check_network.ensures.count_is_size in
-    let s = stage_size c.args.inputs c.loop-i.i net f.2 (omega arith) in
+    let s = stage_size c.args.inputs c.loop-i.i net f.2 (omega (arith, c.in_ok-check_network.ensures.count_is_size)) in
     let k : c.loop-i.normal.count ≡ size (first_normalised c.args.inputs c.loop-i.i net) = ap (λ (m : Network). m.count) c.loop-i.invariant in
-    record {
-      inputs = f.0;
-      place = omega (arith, c.loop-i-test.true);
-      few = omega (arith, f.1);
-      cleared = stage_places (first_normalised c.args.inputs c.loop-i.i net) c.loop-i.normal c.loop-i.invariant;
-    }
+    omega (arith, f.1, c.in_ok-check_network.ensures.count_is_size)
 
 pub loop-i-preserved : goal.loop-i-preserved
 loop-i-preserved c =

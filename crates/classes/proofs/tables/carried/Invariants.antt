@@ -1,8 +1,0 @@
-use Rattle.std.proofs.Common.{◌≡◌, ◌-◌}
-use Rattle.mig.specs.Tables.{bit_at}
-use Rattle.mig.specs.Tables.{table_from}
-use Rattle.class_laws.specs.Ways.{old_row}
-use Rattle.classes.proofs.tables.carried.Given as goal
-
-abbrev pub invariant-loop-t : goal.invariant-loop-t
-invariant-loop-t l = l.out ≡ table_from (16 - l.t) l.t (λ u. bit_at l.table (old_row l.order l.mask u))
