@@ -1,14 +1,15 @@
 -- The gates of a network in their places, and those of the renamed one.
-use Rattle.std.proofs.Common.{◌≡◌, ℕ, ◌+◌, ◌-◌, ◌≤◌, Bool, true, false, cond, List, ◌++◌, map, length, take, drop, replicate, sym, refl, ◌∙◌, subst, ap₂, arith}
+use Rattle.std.proofs.Common.{◌≡◌, ℕ, ◌+◌, ◌-◌, ◌≤◌, Bool, cond, List, ◌++◌, map, length, drop, replicate, sym, ◌∙◌, ap₂, arith}
 use mir.Val.{bool_byte}
 use Rattle.std.specs.List.{All}
-use Rattle.std.proofs.lemmas.List.{length-map, take_all, drop-replicate}
+use Rattle.std.proofs.lemmas.List.{length-map, drop-replicate}
 use Rattle.std.proofs.lemmas.List.Elements.{All-from_get_or}
 use Rattle.mig.specs.declared.network.Gate.{Gate}
 use Rattle.mig.specs.declared.network.Network.{Network}
 use Rattle.mig.specs.Networks.{net_of, network_of, size, empty_gate, GateBelow, Ordered}
 use Rattle.mig_laws.proofs.Places.{same_network}
 use Rattle.mig_laws.proofs.Steps.{ordered_at}
+use Rattle.classes.proofs.Bits.{bit_number}
 use Rattle.class_laws.specs.Renaming.{complement_by, rename, rename_gate, rename_net}
 
 -- gates with at most twelve nodes name nodes below twelve
@@ -16,10 +17,6 @@ pub gates_below_12 : (m : ℕ) (gs : List Gate) → Ordered m gs → m + length 
 gates_below_12 m gs h few =
     All-from_get_or (GateBelow 12) gs empty_gate
     (λ i l. let g = ordered_at m i gs h l in (omega (arith, g.0), omega (arith, g.1), omega (arith, g.2)))
-
-bit_number : (b : Bool) → bool_byte b ≡ cond b 1 0
-bit_number true = refl
-bit_number false = refl
 
 -- the renamed gates in their places, behind them empty ones, and the renamed output, are the renamed network
 pub renamed_places : (σ : ℕ → ℕ) (flipped : Bool) (network : Network) (front : List Gate) (empty : Gate) (bit output code : ℕ)

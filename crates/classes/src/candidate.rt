@@ -8,15 +8,15 @@ use crate::way::Way;
 // A way from a table, and the table that it leads to.
 #[derive(Clone, Copy)]
 pub(crate) struct Candidate {
-    pub from: u16,
-    pub way: Way,
-    pub table: u16,
+    pub(crate) from: u16,
+    pub(crate) way: Way,
+    pub(crate) table: u16,
     ghost reached: { carry_table (way_of way) from ≡ table },
 }
 
 impl Candidate {
     // The way that leaves the table as it is.
-    pub fn unmoved(table: u16) -> Candidate
+    pub(crate) fn unmoved(table: u16) -> Candidate
         ensures { result.from ≡ table }
     {
         Candidate {
@@ -31,7 +31,7 @@ impl Candidate {
     }
 
     // The smaller of the two tables that the way leads to, with its output as it is and complemented.
-    pub fn smaller(mut way: Way, from: u16) -> Candidate
+    pub(crate) fn smaller(mut way: Way, from: u16) -> Candidate
         ensures comes_from { result.from ≡ from }
         ensures least { (b : Bool) → result.table ≤ carry_table (by way.order way.mask b) from }
     {

@@ -5,9 +5,9 @@ ghost use Rattle.classes.specs.Permutations.{IsPermutation};
 // A permutation: the input that takes the place of each input, the row of the old table that each row reads, and the
 // number of the inverse.
 pub(crate) struct Permutation {
-    pub sources: [u8; 4],
-    pub rows: [u8; 16],
-    pub inverse: u8,
+    pub(crate) sources: [u8; 4],
+    pub(crate) rows: [u8; 16],
+    pub(crate) inverse: u8,
 }
 
 // The permutations, in the order of their sources.
@@ -136,7 +136,7 @@ static PERMUTATIONS: [Permutation; 24] = [
 
 impl Permutation {
     // The permutation of a number.
-    pub fn numbered(order: u8) -> &'static Permutation
+    pub(crate) fn numbered(order: u8) -> &'static Permutation
         requires { order < 24 }
         ensures { IsPermutation order result.now }
     {

@@ -6,7 +6,7 @@ use Rattle.mig.specs.Networks.{Net, net_of, network_of, size}
 use Rattle.mig.specs.Questions.{Valid, Meets}
 use Rattle.search.specs.Meaning.{Holds}
 use Rattle.enumeration_laws.specs.Limits.{InLimits}
-use Rattle.enumeration_laws.proofs.Places.{net_of-network_of}
+use Rattle.mig_laws.proofs.Places.{net_of-network_of}
 
 -- the network that places stand for, into which one was written
 pub net_written : (network : Network) (net : Net) → network ≡ network_of net → net_of network ≡ net

@@ -1,22 +1,11 @@
 -- The seven places of a network, with one gate more.
-use Rattle.std.proofs.Common.{◌≡◌, ℕ, suc, ◌+◌, ◌-◌, ◌<◌, List, [], ◌∷◌, ◌++◌, length, set, replicate, sym, refl, ap, ◌∙◌, append_assoc, arith}
-use Rattle.std.proofs.lemmas.List.{set_at, take_at, length_push}
+use Rattle.std.proofs.Common.{◌≡◌, ℕ, suc, ◌+◌, ◌-◌, ◌<◌, [], ◌∷◌, ◌++◌, length, set, replicate, sym, refl, ap, ◌∙◌, append_assoc, arith}
+use Rattle.std.proofs.lemmas.List.{set_at, length_push}
 use Rattle.mig.specs.declared.network.Gate.{Gate}
 use Rattle.mig.specs.declared.network.Network.{Network}
-use Rattle.mig.specs.Networks.{Net, net_of, network_of, size, empty_gate}
+use Rattle.mig.specs.Networks.{net_of, network_of, empty_gate}
+use Rattle.mig_laws.proofs.Places.{same_network}
 use Rattle.enumeration_laws.specs.Prefixes.{with_gate}
-
--- the network that the places stand for, written into places, and back
-pub net_of-network_of : (net : Net) → net_of (network_of net) ≡ net
-net_of-network_of net =
-    ap (λ (gs : List Gate). with_gates gs) (take_at net.gates (replicate (7 - size net) empty_gate) (size net) refl)
-  where
-    with_gates : List Gate → Net
-    with_gates gs = record { gates = gs; output = net.output }
-
-same_network : {a b o p : ℕ} {gs hs : List Gate} → a ≡ b → gs ≡ hs → o ≡ p
-    → ◌≡◌ {A = Network} (record { count = a; gates = gs; output = o }) (record { count = b; gates = hs; output = p })
-same_network e f h = rw (e, f, h)
 
 -- a gate written behind the gates, into the first empty place
 pub gate_written : (network : Network) (g : Gate) (o : ℕ) → network.count < 7 → network ≡ network_of (net_of network)

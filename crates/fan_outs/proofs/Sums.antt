@@ -18,7 +18,7 @@ unfolding uses_in
 uses_as_sum j gs = is_sum_by (uses_in j) (gate_names j) refl (λ _ _. refl) gs
 
 -- a code names the node at most once
-pub names_bound : (j c : ℕ) → names j c ≤ 1
+names_bound : (j c : ℕ) → names j c ≤ 1
 names_bound j c = search (arith)
 
 -- each gate uses a node at most three times

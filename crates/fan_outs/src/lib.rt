@@ -10,7 +10,8 @@ use mig::{Gate, Network, Refusal};
 
 // 1 if the code names the node, else 0.
 fn code_uses(code: u8, node: u8) -> u8
-    ensures { result ≡ names node code }
+    ensures answer { result ≡ names node code }
+    ensures bound { result ≤ 1 }
 {
     u8::from(code / 2 == node)
 }

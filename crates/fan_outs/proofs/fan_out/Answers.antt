@@ -2,7 +2,7 @@ use Rattle.std.proofs.Common.{◌≡◌, rules, arith, sym, ap, ◌∙◌}
 use Rattle.std.proofs.lemmas.Iterator.{YieldsList-from_slice, YieldsList-from_map}
 use Rattle.std.proofs.lemmas.Iterator.Consumers.{sum_by_from_yields_List, fits_by_from_yields_list}
 use Rattle.mig.specs.Networks.{uses_in}
-use Rattle.fan_outs.proofs.Sums.{gate_names, uses_as_sum, uses_bound, names_bound}
+use Rattle.fan_outs.proofs.Sums.{gate_names, uses_as_sum, uses_bound}
 use Rattle.fan_outs.proofs.fan_out.Goals as goal
 
 pub sum-fan_ins-requires-clause-fits : goal.sum-fan_ins-requires-clause-fits
@@ -20,7 +20,7 @@ summed c =
 
 pub overflow_add-result : goal.overflow_add-result
 overflow_add-result c =
-    omega (arith, c.gates.ensures.counted_up_to_seven, summed c, uses_bound c.args.node c.gates.result.now, c.code_uses.ensures, names_bound c.args.node c.args.network.now.output)
+    omega (arith, c.gates.ensures.counted_up_to_seven, summed c, uses_bound c.args.node c.gates.result.now, c.code_uses.ensures.bound)
 
 pub returns : goal.returns
-returns c = omega (arith, summed c, ap (uses_in c.args.node) c.gates.ensures.gates, c.code_uses.ensures)
+returns c = omega (arith, summed c, ap (uses_in c.args.node) c.gates.ensures.gates, c.code_uses.ensures.answer)

@@ -1,13 +1,9 @@
-use Rattle.std.proofs.Common.{◌≡◌, ℕ, ◌-◌, Bool, true, false, suc, refl, ap, arith, lit<}
+use Rattle.std.proofs.Common.{◌≡◌, ℕ, ◌-◌, Bool, suc, refl, ap, arith, lit<}
 use Rattle.std.proofs.Math.Nat.{pow-succ'}
-use mir.Val.{bool_byte}
 use Rattle.mig.specs.Tables.{table_from}
 use Rattle.mig_laws.proofs.Tables.{one, one_small, table_down}
+use Rattle.classes.proofs.Bits.{bit_number}
 use Rattle.classes.proofs.tables.number_of.Goals as goal
-
-bit_number : (b : Bool) → bool_byte b ≡ one b
-bit_number true = refl
-bit_number false = refl
 
 none : (n t : ℕ) (f : ℕ → Bool) → 0 ≡ table_from (n - n) t f
 unfolding table_from
