@@ -5,7 +5,7 @@ use Rattle.std.specs.List.{flat_map}
 use Rattle.mig.specs.declared.network.Gate.{Gate}
 use Rattle.mig.specs.declared.network.Network.{Network}
 use Rattle.mig.specs.declared.refusal.Refusal.{Refusal}
-use Rattle.mig.specs.declared.refusal.Refusal.TheVariants.{InputsAboveFour, TableBitBeyondRows, DepthLimitAboveSeven, FanOutLimitOutOfRange, GatesAboveReach, TooFewWorkWords, MalformedNetwork, WrongTable, LevelAboveLimit, FanOutAboveLimit, BufferTooShort}
+use Rattle.mig.specs.declared.refusal.Refusal.TheVariants.{InputsAboveFour, TableBitBeyondRows, DepthLimitAboveSeven, FanOutLimitOutOfRange, GatesAboveReach, TooFewWorkWords, CollectionFull, KeyNotKept, MalformedNetwork, WrongTable, LevelAboveLimit, FanOutAboveLimit, NoImprovement, BufferTooShort, BytesEndInRecord, WrongRecordLength, UnknownRecordKind, NoAssignment, ClauseFails}
 use Rattle.mig.specs.Networks.{net_of}
 
 -- a gate: its codes in decimal digits, with dots between them
@@ -33,8 +33,16 @@ refusal_text DepthLimitAboveSeven = codes "depth limit above 7"
 refusal_text FanOutLimitOutOfRange = codes "fan-out limit 0 or above 19"
 refusal_text GatesAboveReach = codes "more gates than the search reaches"
 refusal_text TooFewWorkWords = codes "too few work words"
+refusal_text CollectionFull = codes "collection full"
+refusal_text KeyNotKept = codes "key not kept"
 refusal_text MalformedNetwork = codes "malformed network"
 refusal_text WrongTable = codes "does not compute the table"
 refusal_text LevelAboveLimit = codes "level above the depth limit"
 refusal_text FanOutAboveLimit = codes "a gate's fan-out above the fan-out limit"
+refusal_text NoImprovement = codes "no fewer gates than the kept network"
 refusal_text BufferTooShort = codes "buffer too short"
+refusal_text BytesEndInRecord = codes "the bytes end inside a record"
+refusal_text WrongRecordLength = codes "a record length that its kind does not have"
+refusal_text UnknownRecordKind = codes "unknown kind of record"
+refusal_text NoAssignment = codes "not one byte of 0 or 1 for each variable"
+refusal_text ClauseFails = codes "a clause fails"

@@ -56,11 +56,19 @@ impl fmt::Display for Refusal {
             Refusal::FanOutLimitOutOfRange => "fan-out limit 0 or above 19",
             Refusal::GatesAboveReach => "more gates than the search reaches",
             Refusal::TooFewWorkWords => "too few work words",
+            Refusal::CollectionFull => "collection full",
+            Refusal::KeyNotKept => "key not kept",
             Refusal::MalformedNetwork => "malformed network",
             Refusal::WrongTable => "does not compute the table",
             Refusal::LevelAboveLimit => "level above the depth limit",
             Refusal::FanOutAboveLimit => "a gate's fan-out above the fan-out limit",
+            Refusal::NoImprovement => "no fewer gates than the kept network",
             Refusal::BufferTooShort => "buffer too short",
+            Refusal::BytesEndInRecord => "the bytes end inside a record",
+            Refusal::WrongRecordLength => "a record length that its kind does not have",
+            Refusal::UnknownRecordKind => "unknown kind of record",
+            Refusal::NoAssignment => "not one byte of 0 or 1 for each variable",
+            Refusal::ClauseFails => "a clause fails",
         })
     }
 }
