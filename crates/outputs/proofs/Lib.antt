@@ -1,1 +1,2 @@
 mod ByKind
+mod Room
