@@ -56,3 +56,7 @@ cut_place n net network place few h e =
 pub normalised_place : (n : ℕ) (net : Net) (network : Network) (r : Result Network Refusal) → n ≤ 4 → Holding n net network → r ≡ normalised_answer n network → r ≡ Ok (network_of (normalised n net))
 normalised_place n net network r few h e =
     e ∙ rw (not_refused n net network few h) (ap (λ (x : Net). Ok (network_of (normalised n x))) h.held)
+
+-- a value that stands for a network has its places behind the gates 0
+pub cleared_value : (place : Network) (net : Net) → place ≡ network_of net → place ≡ network_of (net_of place)
+cleared_value place net e = e ∙ ap network_of (sym (ap net_of e ∙ net_of-network_of net))

@@ -10,8 +10,8 @@ use Rattle.classes.specs.Reach.{way_of}
 use Rattle.filing.specs.Filing.{LeadsToClass, given_by}
 use Rattle.filing.proofs.Carried.{leads, given_meets}
 use Rattle.filing.proofs.Placed.{Holding, not_refused, carried_place, cut_place, normalised_place}
-use Rattle.filing.proofs.carry_out.Goals as goal
-use Rattle.filing.proofs.carry_out.Goals.{In_ok-carried}
+use Rattle.filing.proofs.carrying_over.carry_out.Goals as goal
+use Rattle.filing.proofs.carrying_over.carry_out.Goals.{In_ok-carried}
 
 -- the network as it is lent
 lent : (c : In_ok-carried) → Holding 4 (net_of c.args.network.now) c.args.network.now
