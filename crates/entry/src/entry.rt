@@ -6,7 +6,7 @@ ghost use Rattle.filing.specs.Props.{ordered_prop};
 ghost use Rattle.entry.specs.Bounds.{LowerBound};
 
 use filing::Key;
-use mig::Network;
+use mig::{Limits, Network};
 
 // What is kept of a key: a lower number, below which no network meets the key's question, and perhaps a network.
 #[derive(Clone, Copy)]
@@ -45,5 +45,22 @@ impl Entry {
         ensures { result ≡ is_settled (held self.now) }
     {
         self.upper() == Some(self.lower)
+    }
+}
+
+// The new entry of the key of zeros: what stands in the places of a table that are not in use.
+impl Default for Entry {
+    ghost use Rattle.entry.specs.Held.{held, nothing};
+
+    ghost is_default = { λ e. held e ≡ nothing };
+
+    fn default() -> Entry {
+        Entry::new(Key {
+            table: 0,
+            limits: Limits {
+                depth: 0,
+                fan_out: 0,
+            },
+        })
     }
 }

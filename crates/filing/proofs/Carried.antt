@@ -1,17 +1,21 @@
 -- Networks of a question and of its class: what is met, and how many gates.
-use Rattle.std.proofs.Common.{◌≡◌, ℕ, ◌%◌, ◌^◌, ◌<◌, ◌≤◌, sym, ap, ◌∙◌, subst}
+use Rattle.std.proofs.Common.{◌≡◌, ℕ, ◌%◌, ◌^◌, ◌<◌, ◌≤◌, cond, sym, ap, ◌∙◌, subst, arith}
 use Rattle.mig.specs.declared.question.Question.{Question}
-use Rattle.mig.specs.Networks.{Net}
+use Rattle.mig.specs.declared.network.Network.{Network}
+use Rattle.mig.specs.Networks.{Net, net_of, network_of, size, Formed}
+use Rattle.mig.specs.Normal.{Normal}
 use Rattle.mig.specs.Tables.{bit_at}
 use Rattle.mig.specs.Questions.{question_of, Meets}
 use Rattle.mig_laws.proofs.Tables.{table_below}
-use Rattle.mig_laws.proofs.Turning.{normalised_meets}
-use Rattle.class_laws.specs.Lifting.{raise_net, cut_net}
-use Rattle.class_laws.specs.Ways.{Way, IsWay, inverse, carry_table, carry_net, Representative}
-use Rattle.class_laws.proofs.Lifted.{raising, cutting}
-use Rattle.class_laws.proofs.Carried.{carrying, returning}
+use Rattle.mig_laws.proofs.Turning.{normalised_meets, normalised_normal, normalised_shape}
+use Rattle.mig_laws.proofs.Places.{net_of-network_of}
+use Rattle.class_laws.specs.Lifting.{raised_code, raise_net, cut_net}
+use Rattle.class_laws.specs.Ways.{Way, IsWay, inverse, carry_table, carried_code, carry_net, Representative}
+use Rattle.class_laws.proofs.Lifted.{raising, cutting, raised_same_gates, cut_same_gates}
+use Rattle.class_laws.proofs.Renamed.{size-rename}
+use Rattle.class_laws.proofs.Carried.{carrying, returning, carried_same_gates}
 use Rattle.class_laws.proofs.Classes.{one_representative, least_represents}
-use Rattle.filing.specs.Filing.{lifted_table, class_of, class_question, LeadsToClass, kept_by, given_by}
+use Rattle.filing.specs.Filing.{lifted_table, class_of, key_of, class_question, Keepable, LeadsToClass, kept_by, given_by}
 
 lifted_below : (q : Question) → lifted_table q < 2 ^ 16
 lifted_below q = table_below 16 0 (λ t. bit_at q.table (t % (2 ^ q.inputs)))
@@ -44,3 +48,28 @@ given_meets q w net few l h =
     let lifted = subst (λ (g : ℕ). Meets (question_of 4 g q.limits) (carry_net (inverse w) net)) (way_back q w l) carried in
     normalised_meets q (cut_net 4 q.inputs (carry_net (inverse w) net))
     (cutting 4 q.inputs q.table q.limits (carry_net (inverse w) net) few lifted)
+
+-- a kept network may stand under the key of the question
+pub kept_keepable : (q : Question) (w : Way) (net : Net) (place : Network) → q.inputs ≤ 4 → size net ≤ 7 → LeadsToClass q w → Meets q net
+    → place ≡ network_of (kept_by w q net) → Keepable (key_of q) place
+kept_keepable q w net place few small l h e =
+    let there = carried_same_gates w (raise_net 4 q.inputs net) l.is_way (raised_same_gates 4 q.inputs net few h.formed).formed in
+    let back : net_of place ≡ kept_by w q net = ap net_of e ∙ net_of-network_of (kept_by w q net) in
+    let shape = normalised_shape 4 (carry_net w (raise_net 4 q.inputs net)) there.formed in
+    let same = size-rename (carried_code w.order w.mask) (cond w.flipped 1 0) (raise_net 4 q.inputs net) in
+    let raised = size-rename (raised_code 4 q.inputs) 0 net in
+    let count : place.count ≡ size (kept_by w q net) = ap (λ (x : Network). x.count) e in
+    record {
+      meets = subst (Meets (class_question q)) (sym back) (kept_meets q w net few l h);
+      normal = subst Normal (sym back) (normalised_normal 4 (carry_net w (raise_net 4 q.inputs net)) there.formed);
+      few = omega (arith, shape.gates, same, raised, count, small);
+      cleared = e ∙ ap network_of (sym back);
+    }
+
+-- a network keeps its number of gates where it is given out
+pub given_size : (q : Question) (w : Way) (net : Net) → q.inputs ≤ 4 → LeadsToClass q w → Formed 4 net → size (given_by w q net) ≡ size net
+given_size q w net few l h =
+    let back = returning w (lifted_table q) l.is_way (lifted_below q) in
+    let carried = carried_same_gates (inverse w) net back.0 h in
+    let cut = cut_same_gates 4 q.inputs (carry_net (inverse w) net) few carried.formed in
+    (normalised_shape q.inputs (cut_net 4 q.inputs (carry_net (inverse w) net)) cut.formed).gates ∙ cut.gates ∙ carried.gates

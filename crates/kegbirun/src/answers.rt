@@ -1,5 +1,7 @@
 // What commands are answered, and how it is written.
+use collection_laws::{Fault, Loaded};
 use mig::Network;
+use records::layer;
 use std::fmt;
 
 #[derive(Clone, Copy)]
@@ -8,6 +10,8 @@ pub(crate) enum Answer {
     Normalised(Network),
     Represented(u16),
     Asked(Option<Network>),
+    Opened(usize),
+    Called(collection_laws::Answer),
 }
 
 impl fmt::Display for Answer {
@@ -18,6 +22,58 @@ impl fmt::Display for Answer {
             Answer::Represented(table) => write!(f, "{table:04x}"),
             Answer::Asked(Some(network)) => write!(f, "found {network}"),
             Answer::Asked(None) => write!(f, "none"),
+            Answer::Opened(entries) => write!(f, "{entries} entries"),
+            Answer::Called(answer) => write_called(answer, f),
         }
     }
+}
+
+// What a call of the collection is answered.
+fn write_called<W: fmt::Write>(
+    answer: &collection_laws::Answer,
+    f: &mut fmt::Formatter<W>,
+) -> fmt::Result {
+    match answer {
+        collection_laws::Answer::Given {
+            network,
+            lower,
+            asked,
+        } => write!(
+            f,
+            "{network} gates {} lower {lower} asked {asked}",
+            network.count
+        ),
+        collection_laws::Answer::NoneWithin { lower, asked } => {
+            write!(f, "none lower {lower} asked {asked}")
+        }
+        collection_laws::Answer::Deposited { gates } => write!(f, "{gates} gates"),
+        collection_laws::Answer::Known {
+            lower,
+            network: Some(network),
+        } => write!(f, "lower {lower} upper {} {network}", network.count),
+        collection_laws::Answer::Known {
+            lower,
+            network: None,
+        } => write!(f, "lower {lower} no network"),
+        collection_laws::Answer::Struck => write!(f, "0"),
+        collection_laws::Answer::Loaded(loaded) => write_loaded(loaded, f),
+        collection_laws::Answer::Exported { bytes } => write!(f, "{bytes} bytes"),
+    }
+}
+
+// How many records were taken and passed over, and the fault; where there is none, its three numbers are 0.
+fn write_loaded<W: fmt::Write>(loaded: &Loaded, f: &mut fmt::Formatter<W>) -> fmt::Result {
+    let Loaded {
+        taken,
+        passed,
+        fault,
+    } = *loaded;
+    let (number, layer, place) = match fault {
+        Some(Fault { refusal, place }) => (refusal.number(), layer(refusal), place),
+        None => (0, 0, 0),
+    };
+    write!(
+        f,
+        "taken {taken} passed {passed} fault {number} layer {layer} place {place}"
+    )
 }

@@ -1,21 +1,46 @@
 // The commands: how they are read, and how they are answered.
 use crate::answers::Answer;
+use crate::session::{Session, asked};
 use crate::words::{Unreadable, next};
-use bound_layer::BoundLayer;
 use classes::representative;
-use enumeration::Enumeration;
+use collection_laws::{Call, Opening};
 use examine::examine;
 use mig::{Limits, Network, Question, Refusal};
 use normalise::normalise;
-use search::Search;
-use std::str::{FromStr, SplitAsciiWhitespace};
+use std::fs;
+use std::str::SplitAsciiWhitespace;
+use thiserror::Error;
 
 #[derive(Clone, Copy)]
-pub(crate) enum Command {
+pub(crate) enum Command<'a> {
     Examine(Question, Network),
     Normalise(u8, Network),
     Representative(u8, u32),
     Ask(Question, u8),
+    Open(Opening),
+    Order(Question, u8),
+    Deposit(Question, Network),
+    LookUp(Question),
+    Strike(Question),
+    Load(&'a str),
+    Export(&'a str),
+}
+
+// Why a command has no answer.
+#[derive(Clone, Copy, Debug, Error)]
+pub(crate) enum Unanswered<'a> {
+    #[error("refused {} {0}", .0.number())]
+    Refused(Refusal),
+    #[error("cannot read {0}")]
+    CannotRead(&'a str),
+    #[error("cannot write {0}")]
+    CannotWrite(&'a str),
+}
+
+impl From<Refusal> for Unanswered<'_> {
+    fn from(refusal: Refusal) -> Self {
+        Unanswered::Refused(refusal)
+    }
 }
 
 // The number of inputs, the table and the two limits.
@@ -30,56 +55,118 @@ fn next_question(words: &mut SplitAsciiWhitespace) -> Result<Question, Unreadabl
     })
 }
 
-// The command's name, and then what it takes.
-impl FromStr for Command {
-    type Err = Unreadable;
+// How a collection opens.
+fn next_opening(words: &mut SplitAsciiWhitespace) -> Result<Opening, Unreadable> {
+    match words.next().ok_or(Unreadable::TooFewWords)? {
+        "empty" => Ok(Opening::Empty),
+        "starter" => Ok(Opening::WithStarters),
+        _ => Err(Unreadable::NoOpening),
+    }
+}
 
-    fn from_str(text: &str) -> Result<Command, Unreadable> {
+// The name of a file.
+fn next_file<'a>(words: &mut SplitAsciiWhitespace<'a>) -> Result<&'a str, Unreadable> {
+    words.next().ok_or(Unreadable::TooFewWords)
+}
+
+impl<'a> Command<'a> {
+    // The command's name, and then what it takes.
+    pub(crate) fn read(text: &'a str) -> Result<Command<'a>, Unreadable> {
         let mut words = text.split_ascii_whitespace();
         let name = words.next().ok_or(Unreadable::TooFewWords)?;
-        let command = match name {
-            "examine" => Command::Examine(next_question(&mut words)?, next(&mut words)?),
-            "normalise" => Command::Normalise(next(&mut words)?, next(&mut words)?),
-            "representative" => Command::Representative(next(&mut words)?, next(&mut words)?),
-            "ask" => Command::Ask(next_question(&mut words)?, next(&mut words)?),
-            _ => return Err(Unreadable::UnknownCommand),
-        };
+        let command = Command::named(name, &mut words)?;
         if words.next().is_some() {
             return Err(Unreadable::TooManyWords);
         }
         Ok(command)
     }
-}
 
-impl Command {
+    // The command of a name, with the words that it takes.
+    fn named(name: &str, words: &mut SplitAsciiWhitespace<'a>) -> Result<Command<'a>, Unreadable> {
+        Ok(match name {
+            "examine" => Command::Examine(next_question(words)?, next(words)?),
+            "normalise" => Command::Normalise(next(words)?, next(words)?),
+            "representative" => Command::Representative(next(words)?, next(words)?),
+            "ask" => Command::Ask(next_question(words)?, next(words)?),
+            "open" => Command::Open(next_opening(words)?),
+            "order" => Command::Order(next_question(words)?, next(words)?),
+            "deposit" => Command::Deposit(next_question(words)?, next(words)?),
+            "look-up" => Command::LookUp(next_question(words)?),
+            "strike" => Command::Strike(next_question(words)?),
+            "load" => Command::Load(next_file(words)?),
+            "export" => Command::Export(next_file(words)?),
+            _ => return Err(Unreadable::UnknownCommand),
+        })
+    }
+
     pub(crate) fn name(&self) -> &'static str {
         match self {
             Command::Examine(..) => "examine",
             Command::Normalise(..) => "normalise",
             Command::Representative(..) => "representative",
             Command::Ask(..) => "ask",
+            Command::Open(..) => "open",
+            Command::Order(..) => "order",
+            Command::Deposit(..) => "deposit",
+            Command::LookUp(..) => "look-up",
+            Command::Strike(..) => "strike",
+            Command::Load(..) => "load",
+            Command::Export(..) => "export",
         }
     }
 
-    pub(crate) fn answer(&self) -> Result<Answer, Refusal> {
+    // Answers the command; those of the collection work on that of the session.
+    pub(crate) fn answer(
+        self,
+        rt: &HostRuntime,
+        session: &mut Session,
+    ) -> Result<Answer, Unanswered<'a>> {
         Ok(match self {
             Command::Examine(question, network) => {
-                let (level, fan_out) = examine(question, network)?;
+                let (level, fan_out) = examine(&question, &network)?;
                 Answer::Examined { level, fan_out }
             }
-            Command::Normalise(inputs, network) => Answer::Normalised(normalise(*inputs, network)?),
+            Command::Normalise(inputs, network) => Answer::Normalised(normalise(inputs, &network)?),
             Command::Representative(inputs, table) => {
-                Answer::Represented(representative(*inputs, *table)?)
+                Answer::Represented(representative(inputs, table)?)
             }
-            Command::Ask(question, gates) => Answer::Asked(asked(question, *gates)?),
+            Command::Ask(question, gates) => Answer::Asked(asked(&question, gates)?),
+            Command::Open(opening) => Answer::Opened(session.open(opening)),
+            Command::Order(question, gates) => {
+                Answer::Called(session.call(Call::Order { question, gates })?)
+            }
+            Command::Deposit(question, network) => {
+                Answer::Called(session.call(Call::Deposit { question, network })?)
+            }
+            Command::LookUp(question) => Answer::Called(session.call(Call::LookUp { question })?),
+            Command::Strike(question) => Answer::Called(session.call(Call::Strike { question })?),
+            Command::Load(file) => load(rt, session, file)?,
+            Command::Export(file) => export(rt, session, file)?,
         })
     }
 }
 
-// A network of at most `gates` gates that meets the question, none if there is none.
-fn asked(question: &Question, gates: u8) -> Result<Option<Network>, Refusal> {
-    let mut search = BoundLayer::new(Enumeration::new());
-    let mut place = Network::default();
-    let found = search.ask(question, gates, &mut place, &mut [])?;
-    Ok(found.then_some(place))
+// Loads the bytes of a file.
+fn load<'a>(
+    rt: &HostRuntime,
+    session: &mut Session,
+    file: &'a str,
+) -> Result<Answer, Unanswered<'a>> {
+    let bytes = fs::read(rt, file).map_err(|_| Unanswered::CannotRead(file))?;
+    Ok(Answer::Called(session.call(Call::Load {
+        bytes: bytes.as_slice(),
+    })?))
+}
+
+// Exports to a file.
+fn export<'a>(
+    rt: &HostRuntime,
+    session: &mut Session,
+    file: &'a str,
+) -> Result<Answer, Unanswered<'a>> {
+    let answer = session.call(Call::Export)?;
+    if let collection_laws::Answer::Exported { bytes } = answer {
+        fs::write(rt, file, session.written(bytes)).map_err(|_| Unanswered::CannotWrite(file))?;
+    }
+    Ok(Answer::Called(answer))
 }

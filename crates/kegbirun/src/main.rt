@@ -3,10 +3,12 @@
 
 mod answers;
 mod commands;
+mod session;
 mod words;
 
 use anyhow::anyhow;
 use commands::Command;
+use session::Session;
 use std::env;
 use std::fs::File;
 use std::io::{BufRead, BufReader};
@@ -18,33 +20,39 @@ fn before_comment(line: &str) -> &str {
 }
 
 // Answers one line; nothing where it has no words.
-fn answer_line(rt: &HostRuntime, number: u64, bytes: &[u8]) -> anyhow::Result<()> {
+fn answer_line(
+    rt: &HostRuntime,
+    session: &mut Session,
+    number: u64,
+    bytes: &[u8],
+) -> anyhow::Result<()> {
     let line = String::from_utf8_lossy(rt.alloc(), bytes)?;
     let text = before_comment(line.as_str()).trim_ascii();
     if text.is_empty() {
         return Ok(());
     }
-    match text.parse::<Command>() {
-        Ok(command) => write_answer(rt, command)?,
+    match Command::read(text) {
+        Ok(command) => write_answer(rt, session, command)?,
         Err(why) => println!(rt; "line {number}: {why}")?,
     }
     Ok(())
 }
 
 // Writes the name of the command and its answer.
-fn write_answer(rt: &HostRuntime, command: Command) -> anyhow::Result<()> {
+fn write_answer(rt: &HostRuntime, session: &mut Session, command: Command) -> anyhow::Result<()> {
     let name = command.name();
-    match command.answer() {
+    match command.answer(rt, session) {
         Ok(answer) => println!(rt; "{name}: {answer}")?,
-        Err(refusal) => println!(rt; "{name}: refused {} {refusal}", refusal.number())?,
+        Err(why) => println!(rt; "{name}: {why}")?,
     }
     Ok(())
 }
 
 // Answers each line of the input, to its end.
 fn answer_all<R: BufRead + Drop>(rt: &HostRuntime, input: R) -> anyhow::Result<()> {
+    let mut session = Session::new();
     for (number, line) in (1..u64::MAX).zip(input.split(rt.alloc(), b'\n')) {
-        answer_line(rt, number, line?.as_slice())?;
+        answer_line(rt, &mut session, number, line?.as_slice())?;
     }
     Ok(())
 }

@@ -20,6 +20,8 @@ pub(crate) enum Unreadable {
     NoTable,
     #[error("not a network")]
     NoNetwork,
+    #[error("neither empty nor starter")]
+    NoOpening,
 }
 
 // A value that one word says. It is no FromStr: that of a number refuses large ones, and a network is of another crate.

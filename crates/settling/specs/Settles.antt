@@ -18,6 +18,7 @@ pub record Found (k : Key) (g : ℕ) (h h' : Held) (asked : ℕ) : Type 0 where
   -- the network that the search found, which is left open
   pub found : Network
   pub least : ℕ
+  pub in_places : found.count ≤ 7
   pub holds : Holds (key_question k) least found
   pub not_below : h.lower ≤ least
   pub before_stop : least < stop g h

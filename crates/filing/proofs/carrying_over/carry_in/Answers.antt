@@ -1,15 +1,14 @@
-use Rattle.std.proofs.Common.{rules, ◌≡◌, sym, Ok, ◌≤◌, refl, ap, ◌∙◌, subst, arith}
-use Rattle.mig.specs.Networks.{net_of, network_of, Formed}
+use Rattle.std.proofs.Common.{rules, ◌≡◌, sym, Ok, ◌≤◌, refl, ◌∙◌, arith}
+use Rattle.mig.specs.Networks.{net_of, network_of, size, Formed}
 use Rattle.mig.specs.Questions.{Meets}
 use Rattle.mig.specs.Rules.{network_refusal}
-use Rattle.mig_laws.proofs.Places.{net_of-network_of}
 use Rattle.mig_laws.proofs.Refusals.{some_from_err}
 use Rattle.class_laws.specs.Lifting.{raise_net}
 use Rattle.class_laws.specs.Ways.{Way, carry_net}
 use Rattle.classes.specs.Reach.{way_of}
-use Rattle.filing.specs.Filing.{LeadsToClass, kept_by, class_question, key_of}
-use Rattle.filing.proofs.Carried.{leads, kept_meets}
-use Rattle.filing.proofs.Placed.{Holding, not_refused, raised_place, carried_place, normalised_place, cleared_value}
+use Rattle.filing.specs.Filing.{LeadsToClass, kept_by, key_of}
+use Rattle.filing.proofs.Carried.{leads, kept_keepable}
+use Rattle.filing.proofs.Placed.{Holding, not_refused, raised_place, carried_place, normalised_place}
 use Rattle.filing.proofs.carrying_over.carry_in.Goals as goal
 use Rattle.filing.proofs.carrying_over.carry_in.Goals.{In_ok-way, In_ok-carried, In_ok-normalise}
 
@@ -66,16 +65,11 @@ invariant_of-result c =
     let few : q.inputs ≤ 4 = search rules in
     let met : Meets q net = search rules in
     let w : Way = way_of c.in_ok-way.way in
-    let e = kept at.In_ok-normalise (carried at.In_ok-carried (raised at.In_ok-way)) in
     let key : c.in_ok-of.field-0 ≡ key_of q = search rules in
-    let back = ap net_of e ∙ net_of-network_of (kept_by w q net) in
+    let small : size net ≤ 7 = search rules in
     record {
-      keepable = record {
-        meets = rw key (subst (Meets (class_question q)) (sym back) (kept_meets q w net few (way_leads at.In_ok-way) met));
-        normal = search rules;
-        few = search rules;
-        cleared = cleared_value c.in_ok-normalise.field-0 (kept_by w q net) e;
-      };
+      keepable = rw key (kept_keepable q w net c.in_ok-normalise.field-0 few small (way_leads at.In_ok-way) met
+          (kept at.In_ok-normalise (carried at.In_ok-carried (raised at.In_ok-way))));
     }
 
 pub returns-clause-carried_by_a_way : goal.returns-clause-carried_by_a_way

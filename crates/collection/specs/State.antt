@@ -1,0 +1,31 @@
+-- The state of a collection, and its answers, in the words of the rules.
+use Rattle.std.specs.Prelude.{ℕ, List, cond, Option, Some, None}
+use Rattle.mig.specs.declared.network.Network.{Network}
+use Rattle.entries.specs.declared.entries.Entries.{Entries}
+use Rattle.entries.specs.Rows.{table}
+use Rattle.collection_laws.specs.declared.answer.Answer.{Answer}
+use Rattle.collection_laws.specs.declared.answer.Answer.TheVariants.{Given, NoneWithin, Known}
+use Rattle.collection_laws.specs.declared.answer.Ordered.{Ordered}
+use Rattle.collection_laws.specs.declared.answer.LookedUp.{LookedUp}
+use Rattle.collection_laws.specs.Calls.{Setting, State}
+
+-- the setting of a search with a reach and a need, where so many work words are lent
+abbrev pub setting : ℕ → ℕ → ℕ → Setting
+setting reach need words = record { reach = reach; need = need; words = words }
+
+-- the state of a collection with the count of its search, its entries, and a buffer
+abbrev pub state : ℕ → Entries → List ℕ → State
+state count entries buffer = record { count = count; table = table entries; buffer = buffer }
+
+-- the answer to an order, with what is in the place
+abbrev pub order_answer : Ordered → Network → Answer
+order_answer o place = cond o.given (Given place o.lower o.asked) (NoneWithin o.lower o.asked)
+
+-- what is in the place, if a number says that a network is
+abbrev pub if_number : Option ℕ → Network → Option Network
+if_number None place = None
+if_number (Some gates) place = Some place
+
+-- the answer to a look-up, with what is in the place
+abbrev pub look_up_answer : LookedUp → Network → Answer
+look_up_answer l place = Known l.lower (if_number l.upper place)

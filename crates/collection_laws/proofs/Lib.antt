@@ -1,0 +1,4 @@
+mod Tables
+mod Questions
+mod Orders
+pub mod Law

@@ -1,0 +1,5 @@
+pub mod Calls
+pub mod Loads
+pub mod Runs
+pub mod Law
+pub mod Opening

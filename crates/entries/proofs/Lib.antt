@@ -1,0 +1,5 @@
+mod Changes
+pub mod Keys
+mod Places
+mod Searched
+pub mod Tables

@@ -1,0 +1,4 @@
+mod Gates
+mod Places
+mod Whole
+pub mod Steps

@@ -1,0 +1,36 @@
+// A run of calls.
+ghost use Rattle.std.specs.Prelude.{◌≡◌, ℕ, List, ◌++◌, length, take, drop, min};
+ghost use Rattle.collection_laws.specs.Calls.{State};
+ghost use Rattle.collection_laws.specs.Runs.{Reply, Run};
+ghost use Rattle.collection_laws.specs.Law.{AllRight};
+ghost use Rattle.collection_laws.specs.declared.call.Call.{Call as TheCall};
+ghost use Rattle.collection.specs.State.{setting, state};
+
+use crate::perform::perform;
+use collection::Collection;
+use collection_laws::{Answer, Call};
+use mig::Refusal;
+use search::Search;
+
+// Performs calls one after another, as many as there are places for replies. It answers how many it performed.
+pub fn run<S: Search>(
+    collection: &mut Collection<S>,
+    calls: &[Call],
+    replies: &mut [Result<Answer, Refusal>],
+    words: &mut [u32],
+    buffer: &mut [u8],
+) -> usize
+    ensures as_many_as_there_are_places { result ≡ min (length calls.now) (length replies.old) }
+    ensures places_behind_stay { drop result replies.new ≡ drop result replies.old }
+    ensures every_call_by_its_rule { Run (setting (S.reach collection.old.search) (S.need collection.old.search) (length words.old))
+        (state (S.count collection.old.search) collection.old.entries buffer.old) (take result calls.now) (take result replies.new)
+        (state (S.count collection.new.search) collection.new.entries buffer.new) }
+    ensures every_reply_is_right { AllRight (take result calls.now) (take result replies.new) }
+{
+    let mut performed = 0;
+    for (call, reply) in calls.iter().zip(replies.iter_mut()) {
+        *reply = perform(collection, call, words, buffer);
+        performed += 1;
+    }
+    performed
+}

@@ -1,0 +1,3 @@
+pub mod Again
+mod Asking
+pub mod Bounds
