@@ -1,6 +1,9 @@
 -- The state of a collection, and its answers, in the words of the rules.
-use Rattle.std.specs.Prelude.{ℕ, List, cond, Option, Some, None}
+use Rattle.std.specs.Prelude.{◌≡◌, ℕ, List, cond, Option, Some, None}
 use Rattle.mig.specs.declared.network.Network.{Network}
+use Rattle.mig.specs.declared.question.Question.{Question}
+use Rattle.mig.specs.Networks.{net_of}
+use Rattle.filing.specs.Filing.{CarriedOut}
 use Rattle.entries.specs.declared.entries.Entries.{Entries}
 use Rattle.entries.specs.Rows.{table}
 use Rattle.collection_laws.specs.declared.answer.Answer.{Answer}
@@ -29,3 +32,8 @@ if_number (Some gates) place = Some place
 -- the answer to a look-up, with what is in the place
 abbrev pub look_up_answer : LookedUp → Network → Answer
 look_up_answer l place = Known l.lower (if_number l.upper place)
+
+-- a kept network is carried out into the place, or the place stays; the way of carrying is left open
+abbrev pub GivenOut : Question → Option Network → Network → Network → Type 0
+GivenOut q None before after = after ≡ before
+GivenOut q (Some network) before after = CarriedOut q (net_of network) after

@@ -3,6 +3,7 @@
 
 mod collection;
 mod deposits;
+mod giving;
 mod look_ups;
 mod orders;
 

@@ -9,8 +9,9 @@ ghost use Rattle.collection_laws.specs.Law.{RightLookUp};
 ghost use Rattle.collection.specs.State.{look_up_answer};
 
 use crate::collection::Collection;
+use crate::giving::give_out;
 use collection_laws::LookedUp;
-use filing::{Key, carry_out};
+use filing::Key;
 use mig::{Network, Question, Refusal};
 
 impl<S> Collection<S> {
@@ -27,9 +28,7 @@ impl<S> Collection<S> {
     {
         let key = Key::of(question)?;
         let entry = self.entries.get(key).ok_or(Refusal::KeyNotKept)?;
-        if let Some(network) = entry.network {
-            *place = carry_out(question, &network)?;
-        }
+        give_out(question, entry.network, place)?;
         Ok(LookedUp {
             lower: entry.lower,
             upper: entry.upper(),

@@ -14,9 +14,10 @@ ghost use Rattle.collection_laws.specs.Law.{RightOrder};
 ghost use Rattle.collection.specs.State.{setting, state, order_answer};
 
 use crate::collection::Collection;
+use crate::giving::give_out;
 use collection_laws::Ordered;
 use entry::Entry;
-use filing::{Key, carry_out};
+use filing::Key;
 use mig::{Network, Question, Refusal};
 use search::Search;
 use settling::{Settled, settle};
@@ -90,9 +91,7 @@ impl<S: Search> Collection<S> {
     {
         let change = self.settle_key(question, gates, words)?;
         let network = change.network_given(gates);
-        if let Some(network) = network {
-            *place = carry_out(question, &network)?;
-        }
+        give_out(question, network, place)?;
         Ok(Ordered {
             given: network.is_some(),
             lower: change.after.lower,

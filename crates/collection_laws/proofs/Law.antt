@@ -80,7 +80,7 @@ deposit_sound q network before after e all d =
     }))
 
 -- a look-up
-look_up_right : (q : Question) (h : Held) (answer : Answer) (o : Option Network) → q.inputs ≤ 4 → LowerBound (key_question (key_of q)) h.lower → IfSome o (Keepable (key_of q))
+pub look_up_right : (q : Question) (h : Held) (answer : Answer) (o : Option Network) → q.inputs ≤ 4 → LowerBound (key_question (key_of q)) h.lower → IfSome o (Keepable (key_of q))
     → AnswersLookUp q h.lower o answer → RightLookUp q answer
 look_up_right q h answer None few bound keepable e = subst (RightLookUp q) (sym e) (bound_of_question q h.lower few bound, tt)
 look_up_right q h answer (Some network) few bound keepable (out, carried, e) =

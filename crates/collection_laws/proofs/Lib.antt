@@ -1,4 +1,4 @@
 mod Tables
-mod Questions
-mod Orders
+pub mod Questions
+pub mod Orders
 pub mod Law
