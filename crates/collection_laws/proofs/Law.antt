@@ -29,7 +29,7 @@ use Rattle.collection_laws.proofs.Questions.{bound_of_question, none_of_question
 use Rattle.collection_laws.proofs.Orders.{order_given, order_none}
 
 -- neither of two refusals applies
-neither : (a b : Option Refusal) → or_else a b ≡ None → (a ≡ None) × (b ≡ None)
+pub neither : (a b : Option Refusal) → or_else a b ≡ None → (a ≡ None) × (b ≡ None)
 neither (Some e) b h = absurd cc
 neither None b h = (refl, h)
 

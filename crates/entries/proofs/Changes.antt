@@ -28,9 +28,11 @@ kept_has_room t k h is = ap (λ (o : Option Held). refuse_if (is_none o && nat_l
 pub new_key_refusal : (t : Table) (k : Key) → kept t k ≡ None → full_refusal t k ≡ refuse_if (nat_le capacity (length t)) CollectionFull
 new_key_refusal t k is = ap (λ (o : Option Held). refuse_if (is_none o && nat_le capacity (length t)) CollectionFull) is
 
+-- a key that is kept can be struck
 pub kept_not_missing : (t : Table) (k : Key) (h : Held) → kept t k ≡ Some h → missing_refusal t k ≡ None
 kept_not_missing t k h is = ap (λ (o : Option Held). refuse_if (is_none o) KeyNotKept) is
 
+-- a key that is not kept cannot
 pub new_key_missing : (t : Table) (k : Key) → kept t k ≡ None → missing_refusal t k ≡ Some KeyNotKept
 new_key_missing t k is = ap (λ (o : Option Held). refuse_if (is_none o) KeyNotKept) is
 
@@ -42,7 +44,7 @@ same_rows a b e =
     subst (λ (ys : List Entry). (q : Rising (table_of ys)) → made a.rows.items a.rising ≡ made ys q) e
     (λ q. ap (made a.rows.items) (IsStrictlySortedBy-prop _ _ a.rising q)) b.rising
 
--- what is put after it was put otherwise spelled
+-- the same put, with the key and what is kept named otherwise
 pub put_alike : (r : Result Unit Refusal) (old new : Entries) (k l : Key) (g h : Held) → l ≡ k → g ≡ h → MatchResult r (λ _. table new ≡ put (table old) l g) (λ _. new ≡ old) → MatchResult r (λ _. table new ≡ put (table old) k h) (λ _. new ≡ old)
 put_alike (Ok x) old new k l g h same alike is = is ∙ ap (λ (q : Key). put (table old) q g) same ∙ ap (put (table old) k) alike
 put_alike (Err e) old new k l g h same alike is = is

@@ -1,8 +1,10 @@
 // Runs: calls of a collection one after another, with the law of every run.
 #![tactic(auto)]
 
-mod perform;
-mod run;
+mod one_call;
+mod opening;
+mod running;
 
-pub use perform::perform;
-pub use run::run;
+pub use one_call::perform;
+pub use opening::open;
+pub use running::run;

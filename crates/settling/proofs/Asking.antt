@@ -13,11 +13,11 @@ use Rattle.settling.specs.Settles.{Settles, Found, NoneFound}
 use Rattle.settling.proofs.Bounds.{upper_not_below}
 
 -- a place that holds a network of at most r gates counts no more
-pub few_counted : (k : Key) (r : ℕ) (network : Network) → Holds (key_question k) r network → network.count ≤ r
+few_counted : (k : Key) (r : ℕ) (network : Network) → Holds (key_question k) r network → network.count ≤ r
 few_counted k r network h = omega (arith, ap (λ (n : Network). n.count) h.cleared, h.few)
 
 -- an order that asks has its first number below the one where it stops
-pub asks_below_stop : (k : Key) (g : ℕ) (h : Held) → Sound k h → h.lower ≤ g → is_settled h ≡ false → h.lower < stop g h
+asks_below_stop : (k : Key) (g : ℕ) (h : Held) → Sound k h → h.lower ≤ g → is_settled h ≡ false → h.lower < stop g h
 asks_below_stop k g h s few unsettled = below (upper h) (upper_not_below k h s) unsettled
   where
     below : (u : Option ℕ) → IfSome u (λ n. h.lower ≤ n) → is_number h.lower u ≡ false → h.lower < at_most (g + 1) u

@@ -15,7 +15,7 @@ asks_nothing g h = nat_lt g h.lower || is_settled h
 
 -- the first number that is enough: the network that is found is normalised and kept, and the lower number is that number
 pub record Found (k : Key) (g : ℕ) (h h' : Held) (asked : ℕ) : Type 0 where
-  -- the network that the search found, which is left open
+  -- the network that the search found, which is left open, in its seven places
   pub found : Network
   pub least : ℕ
   pub in_places : found.count ≤ 7

@@ -12,12 +12,21 @@ use records::encode;
 
 // How many bytes the record of an entry takes: none without a network.
 fn record_bytes(entry: &Entry) -> usize
-    ensures { result ≡ length (bytes_of entry.now.key entry.now.lower entry.now.network) }
+    ensures number_of_bytes { result ≡ length (bytes_of entry.now.key entry.now.lower entry.now.network) }
+    ensures at_most_33 { result ≤ 33 }
 {
     match entry.network {
         Some(network) => 12 + 3 * usize::from(network.count),
         None => 0,
     }
+}
+
+// How many bytes the records of all entries take.
+fn all_bytes(rows: &[Entry]) -> usize
+    requires at_most_64 { length rows.now ≤ 64 }
+    ensures { result ≡ length (export_bytes (table_of rows.now)) }
+{
+    rows.iter().map(record_bytes).sum()
 }
 
 // Writes the record of each entry that has a network, one behind another.
@@ -38,16 +47,15 @@ fn write_records(rows: &[Entry], buffer: &mut [u8]) -> Result<usize, Refusal>
     Ok(end)
 }
 
-// An export: the record of each entry that has a network, in the order of the keys. It answers how many bytes are written; those behind
-// them stay.
+// An export: the record of each entry that has a network, in the order of the keys. It answers
+// how many bytes are written; those behind them stay.
 pub fn export<S>(collection: &Collection<S>, buffer: &mut [u8]) -> Result<usize, Refusal>
     ensures refused_where_the_buffer_is_too_short { refused_by result ≡ too_short (table collection.now.entries) (length buffer.old) }
     ensures answers_the_number_of_bytes { IfOk result (λ bytes. bytes ≡ length (export_bytes (table collection.now.entries))) }
     ensures written_by_the_rule { MatchResult result (λ _. buffer.new ≡ written (export_bytes (table collection.now.entries)) buffer.old) (λ _. buffer.new ≡ buffer.old) }
 {
     let rows = collection.rows();
-    let bytes: usize = rows.iter().map(record_bytes).sum();
-    if buffer.len() < bytes {
+    if buffer.len() < all_bytes(rows) {
         return Err(Refusal::BufferTooShort);
     }
     write_records(rows, buffer)

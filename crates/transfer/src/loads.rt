@@ -32,7 +32,7 @@ pub fn load<S>(collection: &mut Collection<S>, bytes: &[u8]) -> Loaded
     for part in Reader::new(bytes) {
         let place = part.place;
         match part.record {
-            Err(refusal) => return ended(loaded, refusal, place),
+            Err(fault) => return ended(loaded, fault, place),
             Ok(record) => match collection.deposit(&record.question, &record.network) {
                 Ok(_) => loaded.taken += 1,
                 Err(Refusal::NoImprovement) => loaded.passed += 1,

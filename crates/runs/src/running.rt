@@ -1,0 +1,44 @@
+// A run of calls.
+ghost use Rattle.std.specs.Prelude.{◌≡◌, ℕ, List, ◌++◌, length, take, drop, min};
+ghost use Rattle.collection_laws.specs.Calls.{State};
+ghost use Rattle.collection_laws.specs.Runs.{Reply, Run};
+ghost use Rattle.collection_laws.specs.Law.{AllRight};
+ghost use Rattle.collection_laws.specs.declared.call.Call.{Call as TheCall};
+ghost use Rattle.collection_laws.specs.declared.call.Opening.{Opening as TheOpening};
+ghost use Rattle.collection_laws.specs.Opening.{Opens};
+ghost use Rattle.collection.specs.State.{setting, state};
+
+use crate::one_call::perform;
+use collection::Collection;
+use collection_laws::{Answer, Call};
+use mig::Refusal;
+use search::Search;
+
+// Performs calls one after another, as many as there are places for replies. It answers how many it performed.
+pub fn run<S: Search>(
+    collection: &mut Collection<S>,
+    calls: &[Call],
+    replies: &mut [Result<Answer, Refusal>],
+    words: &mut [u32],
+    buffer: &mut [u8],
+) -> usize
+    ensures as_many_as_there_are_places { result ≡ min (length calls.now) (length replies.old) }
+    ensures places_behind_stay { drop result replies.new ≡ drop result replies.old }
+    ensures every_call_by_its_rule { let s = setting (S.reach collection.old.search) (S.need collection.old.search) (length words.old) in
+        Run s (state (S.count collection.old.search) collection.old.entries buffer.old) (take result calls.now) (take result replies.new)
+        (state (S.count collection.new.search) collection.new.entries buffer.new) }
+    ensures every_reply_is_right { AllRight (take result calls.now) (take result replies.new) }
+    ensures composes_with_an_earlier_run { let s = setting (S.reach collection.old.search) (S.need collection.old.search) (length words.old) in
+        (b : State) (cs : List TheCall) (rs : List Reply) → Run s b cs rs (state (S.count collection.old.search) collection.old.entries buffer.old)
+        → Run s b (cs ++ take result calls.now) (rs ++ take result replies.new) (state (S.count collection.new.search) collection.new.entries buffer.new) }
+    ensures whole_run_from_an_opening_is_right { let s = setting (S.reach collection.old.search) (S.need collection.old.search) (length words.old) in
+        (o : TheOpening) (b : State) (cs : List TheCall) (rs : List Reply) → Opens o b.table
+        → Run s b cs rs (state (S.count collection.old.search) collection.old.entries buffer.old)
+        → AllRight (cs ++ take result calls.now) (rs ++ take result replies.new) }
+{
+    let count = calls.len().min(replies.len());
+    for i in 0..count {
+        replies[i] = perform(collection, &calls[i], words, buffer);
+    }
+    count
+}
