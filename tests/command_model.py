@@ -30,10 +30,13 @@ WORDS = {
     3: "depth limit above 7",
     4: "fan-out limit 0 or above 19",
     5: "more gates than the search reaches",
+    7: "collection full",
+    8: "key not kept",
     9: "malformed network",
     10: "does not compute the table",
     11: "level above the depth limit",
     12: "a gate's fan-out above the fan-out limit",
+    13: "no fewer gates than the kept network",
 }
 
 
@@ -246,36 +249,45 @@ READERS = {
 }
 
 
-def answer(line, number):
-    """What the program prints for a line of bytes, what it has to equal, or None."""
+def read_command(line, readers):
+    """The name of the command on a line of bytes and the values of its words; None where the line has no words."""
     text = line.decode("utf-8", "replace").split("#")[0]
     words = re.split(r"[ \t\n\f\r]+", text.strip(" \t\n\f\r"))
     if words == [""]:
         return None
+    if words[0] not in readers:
+        raise Unreadable("unknown command")
+    values = []
+    for place, read_word in enumerate(readers[words[0]], 1):
+        if place >= len(words):
+            raise Unreadable("too few words for this command")
+        values.append(read_word(words[place]))
+    if len(words) > len(readers[words[0]]) + 1:
+        raise Unreadable("too many words for this command")
+    return words[0], values
+
+
+def answer(line, number):
+    """What the program prints for a line of bytes, what it has to equal, or None."""
     try:
-        if words[0] not in READERS:
-            raise Unreadable("unknown command")
-        values = []
-        for place, read in enumerate(READERS[words[0]], 1):
-            if place >= len(words):
-                raise Unreadable("too few words for this command")
-            values.append(read(words[place]))
-        if len(words) > len(READERS[words[0]]) + 1:
-            raise Unreadable("too many words for this command")
+        command = read_command(line, READERS)
     except Unreadable as why:
         return f"line {number}: {why}"
+    if command is None:
+        return None
+    name, values = command
     try:
-        if words[0] == "examine":
+        if name == "examine":
             n, table, depth, fan_out, (gates, output) = values
             return "examine: " + examine(n, table, depth, fan_out, gates, output)
-        if words[0] == "representative":
+        if name == "representative":
             return "representative: " + representative(*values)
-        if words[0] == "ask":
+        if name == "ask":
             return ask(*values)
         n, (gates, output) = values
         return "normalise: " + normalise(n, gates, output)
     except Refused as refusal:
-        return f"{words[0]}: refused {refusal} {WORDS[refusal.args[0]]}"
+        return f"{name}: refused {refusal} {WORDS[refusal.args[0]]}"
 
 
 def answers(data):
@@ -517,4 +529,5 @@ def main(words):
         sys.exit(__doc__)
 
 
-main(sys.argv[1:])
+if __name__ == "__main__":
+    main(sys.argv[1:])

@@ -7,9 +7,8 @@ use collection_laws::{Call, Opening};
 use examine::examine;
 use mig::{Limits, Network, Question, Refusal};
 use normalise::normalise;
-use std::fs;
 use std::str::SplitAsciiWhitespace;
-use thiserror::Error;
+use std::{fmt, fs};
 
 #[derive(Clone, Copy)]
 pub(crate) enum Command<'a> {
@@ -27,14 +26,21 @@ pub(crate) enum Command<'a> {
 }
 
 // Why a command has no answer.
-#[derive(Clone, Copy, Debug, Error)]
+#[derive(Clone, Copy)]
 pub(crate) enum Unanswered<'a> {
-    #[error("refused {} {0}", .0.number())]
     Refused(Refusal),
-    #[error("cannot read {0}")]
     CannotRead(&'a str),
-    #[error("cannot write {0}")]
     CannotWrite(&'a str),
+}
+
+impl fmt::Display for Unanswered<'_> {
+    fn fmt<W: fmt::Write>(&self, f: &mut fmt::Formatter<W>) -> fmt::Result {
+        match self {
+            Unanswered::Refused(refusal) => write!(f, "refused {} {refusal}", refusal.number()),
+            Unanswered::CannotRead(file) => write!(f, "cannot read {file}"),
+            Unanswered::CannotWrite(file) => write!(f, "cannot write {file}"),
+        }
+    }
 }
 
 impl From<Refusal> for Unanswered<'_> {

@@ -22,7 +22,7 @@ loop-part-preserved-in-Ok-deposit g c =
     record {
       can = tt;
       finite = tt;
-      search_stays = search rules;
+      search_stays = c.deposit.ensures.search_stays ∙ c.loop-part.invariant.search_stays;
       goes_on = λ answer t later. c.loop-part.invariant.goes_on answer t
           (taken_on _ c.in-Some.part _ c.in-Ok.record _ _ (table c.loop-part.collection.entries) (table c.deposit.new.self.entries) answer t
           c.in-Some.ensures.steps c.in-Ok.is (sym c.in-Ok-deposit.ensures.refused_by_the_rule) c.in-Ok-deposit.ensures.deposited_by_the_rule later);
@@ -39,7 +39,7 @@ loop-part-preserved g c =
     record {
       can = tt;
       finite = tt;
-      search_stays = search rules;
+      search_stays = c.deposit.ensures.search_stays ∙ c.loop-part.invariant.search_stays;
       goes_on = λ answer t later. c.loop-part.invariant.goes_on answer t
           (passed_on _ c.in-Some.part _ c.in-Ok.record _ _ (table c.loop-part.collection.entries) answer t
           c.in-Some.ensures.steps c.in-Ok.is (sym is ∙ ap Some c.in-Err-NoImprovement.field-0-is)
@@ -58,7 +58,7 @@ returns-in-Err-deposit g c =
     let loads = c.loop-part.invariant.goes_on _ _
     (refused_ends _ c.in-Some.part _ c.in-Ok.record c.in-Err-deposit.refusal _ _ now c.in-Some.ensures.steps c.in-Ok.is (sym is) other) in
     record {
-      search_stays = search rules;
+      search_stays = c.deposit.ensures.search_stays ∙ c.loop-part.invariant.search_stays;
       loaded_by_the_rule = rw (c.ended-in-Err-deposit.ensures, stays) loads;
     }
 
