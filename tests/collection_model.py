@@ -374,7 +374,7 @@ def damaged(rng, data):
         size = max(length + more, 2)
         return number_bytes(size, 2) + (rest + b"\0\0\0")[:size]
     if change == 6:
-        return data[:10] + bytes([rng.choice([data[10] + 1, max(data[10] - 1, 0), 255])]) + data[11:]
+        return data[:10] + bytes([rng.choice([min(data[10] + 1, 255), max(data[10] - 1, 0), 255])]) + data[11:]
     place = rng.randrange(len(data))
     return data[:place] + bytes([rng.randrange(256)]) + data[place + 1 :]
 

@@ -485,7 +485,7 @@ class Collection:
 
 def read_set(word):
     if word not in ("empty", "starter"):
-        raise Unreadable("unknown command")
+        raise Unreadable("neither empty nor starter")
     return word
 
 

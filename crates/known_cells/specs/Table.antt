@@ -1,10 +1,11 @@
 -- The known cells and the answers on them.
-use Rattle.std.specs.Prelude.{ℕ, [], ◌∷◌, Ok, Err}
+use Rattle.std.specs.Prelude.{ℕ, [], ◌∷◌, Some, Ok, Err}
 use Rattle.mig.specs.declared.network.Gate.{Gate}
 use Rattle.mig.specs.declared.network.Network.{Network}
 use Rattle.mig.specs.declared.question.Question.{Question}
 use Rattle.mig.specs.declared.refusal.Refusal.TheVariants.{LevelAboveLimit}
 use Rattle.mig.specs.Networks.{network_of}
+use Rattle.records.specs.declared.reader.Part.{Part}
 use Rattle.known_cells.specs.declared.KnownCells.{KnownCells}
 
 -- the question of a number of inputs, a table and the two limits
@@ -23,7 +24,11 @@ one_gate a b c o = network_of (record { gates = gate a b c ∷ []; output = o })
 abbrev pub three_gates : Network
 three_gates = network_of (record { gates = gate 2 4 6 ∷ gate 2 4 7 ∷ gate 9 10 6 ∷ []; output = 12 })
 
--- the answers: level and greatest fan-out, a refusal, a normal form, representatives
+-- a record at the first byte: the majority of three inputs is one gate, within one level and fan-out 1
+abbrev pub deposit_of_majority : Part
+deposit_of_majority = record { place = 0; «record» = Ok (record { question = question 3 0xe8 1 1; network = one_gate 2 4 6 8 }) }
+
+-- the answers: level and greatest fan-out, a refusal, a normal form, representatives, a record
 abbrev pub table : KnownCells
 table =
     record {
@@ -36,4 +41,5 @@ table =
       class_of_constant_1 = Ok 0x0000;
       class_of_an_input = Ok 0x00ff;
       class_of_majority = Ok 0x033f;
+      deposit_of_majority = Some deposit_of_majority;
     }

@@ -1,15 +1,16 @@
-// Known cells: what `examine` and `normalise` answer on some networks, and the representatives of some tables, as one
-// proved table.
+// Known cells: what `examine` and `normalise` answer on some networks, the representatives of some tables, and what some bytes
+// say, as one proved table.
 #![tactic(auto)]
 
-ghost use Rattle.std.specs.Prelude.{◌≡◌, ◌≤◌, length};
+ghost use Rattle.std.specs.Prelude.{◌≡◌, ◌≤◌, length, Some};
 ghost use Rattle.mig.specs.Networks.{network_of};
-ghost use Rattle.known_cells.specs.Table.{table, question, gate, three_gates};
+ghost use Rattle.known_cells.specs.Table.{table, question, gate, three_gates, deposit_of_majority};
 
 use classes::representative;
 use examine::examine;
 use mig::{Gate, Limits, Network, Question, Refusal};
 use normalise::normalise;
+use records::{Part, Reader};
 
 // The answers on the known cells.
 #[derive(Clone, Copy)]
@@ -23,6 +24,7 @@ pub struct KnownCells {
     pub class_of_constant_1: Result<u16, Refusal>,
     pub class_of_an_input: Result<u16, Refusal>,
     pub class_of_majority: Result<u16, Refusal>,
+    pub deposit_of_majority: Option<Part>,
 }
 
 // The question of a number of inputs, a table and the two limits.
@@ -69,7 +71,17 @@ fn three_gates() -> Network
     network(&[gate(2, 4, 6), gate(2, 4, 7), gate(9, 10, 6)], 12)
 }
 
-// Examines and normalises the known cells, and takes their representatives.
+// What begins the bytes of a record that deposits the majority of three inputs.
+fn deposit_of_majority() -> Option<Part>
+    ensures { result ≡ Some deposit_of_majority }
+{
+    let bytes = [
+        0x0d, 0x00, 0x01, 0x00, 0x03, 0xe8, 0x00, 0x01, 0x01, 0x00, 0x01, 0x02, 0x04, 0x06, 0x08,
+    ];
+    Reader::new(&bytes).next()
+}
+
+// Examines and normalises the known cells, takes their representatives, and reads a record.
 pub fn known_cells() -> KnownCells
     ensures { result ≡ table }
 {
@@ -84,5 +96,6 @@ pub fn known_cells() -> KnownCells
         class_of_constant_1: representative(0, 0x1),
         class_of_an_input: representative(1, 0x2),
         class_of_majority: representative(3, 0xe8),
+        deposit_of_majority: deposit_of_majority(),
     }
 }
