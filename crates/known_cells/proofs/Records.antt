@@ -1,10 +1,9 @@
 -- The first part of the bytes of the known record.
-use Rattle.std.proofs.Common.{◌≡◌, ℕ, List, [], ◌∷◌, Some, None, Ok, Option, MatchOption, drop, refl, arith}
+use Rattle.std.proofs.Common.{◌≡◌, ℕ, List, [], ◌∷◌, Some, None, Ok, Option, MatchOption, refl, arith}
 use Rattle.records.specs.declared.reader.Part.{Part}
-use Rattle.records.specs.Records.{gates_from, record_at, record_length}
-use Rattle.records.specs.Parts.{parts_of, parts_from}
+use Rattle.records.specs.Records.{gates_from, record_at}
+use Rattle.records.specs.Parts.{parts_of}
 use Rattle.records.proofs.Steps.{record_first}
-use Rattle.mig.specs.declared.question.Question.{Question}
 use Rattle.known_cells.specs.Table.{question, one_gate, deposit_of_majority}
 
 -- a record of length 13 and kind 1

@@ -1,4 +1,3 @@
-use Rattle.std.proofs.Common.{rules, ◌≡◌}
 use Rattle.records.specs.Parts.{rest}
 use Rattle.known_cells.proofs.Records.{first_given}
 use Rattle.known_cells.proofs.deposit_of_majority.Goals as goal
