@@ -22,6 +22,8 @@ pub fn run<S: Search>(
     words: &mut [u32],
     buffer: &mut [u8],
 ) -> usize
+    ensures reach_and_need_stay { (S.reach collection.new.search ≡ S.reach collection.old.search) × (S.need collection.new.search ≡ S.need collection.old.search) }
+    ensures words_stay_as_many { length words.new ≡ length words.old }
     ensures as_many_as_there_are_places { result ≡ min (length calls.now) (length replies.old) }
     ensures places_behind_stay { drop result replies.new ≡ drop result replies.old }
     ensures every_call_by_its_rule { let s = setting (S.reach collection.old.search) (S.need collection.old.search) (length words.old) in
