@@ -14,7 +14,7 @@ use Rattle.entry.specs.declared.entry.Entry.{Entry}
 use Rattle.collection_laws.specs.declared.answer.Answer.TheVariants.{Known}
 use Rattle.collection_laws.specs.Calls.{AnswersOrder, AnswersLookUp}
 use Rattle.collection_laws.proofs.Questions.{given_out}
-use Rattle.collection.specs.State.{order_answer, if_number, GivenOut}
+use Rattle.collection.specs.State.{order_answer, with_place, GivenOut}
 
 none_if_passing : (o : Option Refusal) → passes o ≡ true → o ≡ None
 none_if_passing (Some e) h = absurd (true≢false (sym h))
@@ -35,7 +35,7 @@ answers_order q lower asked before after (Some network) carried = (after, carrie
 
 -- the answer to a look-up, where a network is kept or none
 pub answers_look_up : (q : Question) (lower : ℕ) (before after : Network) (o : Option Network) → GivenOut q o before after
-    → AnswersLookUp q lower o (Known lower (if_number (gates_of o) after))
+    → AnswersLookUp q lower o (Known lower (with_place (gates_of o) after))
 answers_look_up q lower before after None same = refl
 answers_look_up q lower before after (Some network) carried = (after, carried, refl)
 

@@ -24,14 +24,14 @@ state count entries buffer = record { count = count; table = table entries; buff
 abbrev pub order_answer : Ordered → Network → Answer
 order_answer o place = cond o.given (Given place o.lower o.asked) (NoneWithin o.lower o.asked)
 
--- what is in the place, if a number says that a network is
-abbrev pub if_number : Option ℕ → Network → Option Network
-if_number None place = None
-if_number (Some gates) place = Some place
+-- an upper number, with what is in the place
+abbrev pub with_place : Option ℕ → Network → Option (ℕ × Network)
+with_place None place = None
+with_place (Some gates) place = Some (gates, place)
 
 -- the answer to a look-up, with what is in the place
 abbrev pub look_up_answer : LookedUp → Network → Answer
-look_up_answer l place = Known l.lower (if_number l.upper place)
+look_up_answer l place = Known l.lower (with_place l.upper place)
 
 -- a kept network is carried out into the place, or the place stays; the way of carrying is left open
 abbrev pub GivenOut : Question → Option Network → Network → Network → Type 0

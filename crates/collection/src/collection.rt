@@ -1,6 +1,6 @@
 // The collection: a search, and the entries.
 ghost use Rattle.std.specs.Prelude.{◌≡◌, ◌≤◌, [], length};
-ghost use Rattle.entries.specs.Table.{table_of};
+ghost use Rattle.entries.specs.Table.{table_of, Rising};
 ghost use Rattle.entries.specs.Rows.{table};
 
 use entries::Entries;
@@ -36,7 +36,15 @@ impl<S> Collection<S> {
     pub fn rows(&self) -> &[Entry]
         ensures all_rows { table_of result.now ≡ table self.now.entries }
         ensures at_most_64 { length result.now ≤ 64 }
+        ensures keys_rise { Rising (table self.now.entries) }
     {
         self.entries.rows()
+    }
+
+    // The search: its reach, its need and its count can be read.
+    pub fn search(&self) -> &S
+        ensures { result.now ≡ self.now.search }
+    {
+        &self.search
     }
 }

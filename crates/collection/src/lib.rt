@@ -1,4 +1,4 @@
-// A collection of cells over any search: what its calls do, and the law of every run of them.
+// A collection of cells over any search: orders, deposits, look-ups and strikes.
 #![tactic(auto)]
 
 mod collection;

@@ -2,6 +2,7 @@
 ghost use Rattle.std.specs.Prelude.{◌≡◌, None, IfOk, OnErr, IfSome, MatchResult};
 ghost use Rattle.mig.specs.Rules.{refused_by};
 ghost use Rattle.filing.specs.Filing.{key_of};
+ghost use Rattle.entry.specs.Held.{upper};
 ghost use Rattle.entries.specs.Table.{kept_or_new, struck};
 ghost use Rattle.entries.specs.Rows.{table};
 ghost use Rattle.collection_laws.specs.Calls.{look_up_refusal, AnswersLookUp};
@@ -21,6 +22,8 @@ impl<S> Collection<S> {
         ensures refused_by_the_rule { refused_by result ≡ look_up_refusal question.now (table self.now.entries) }
         ensures answered_by_the_rule { IfOk result (λ l. let kept = kept_or_new (table self.now.entries) (key_of question.now) in
             AnswersLookUp question.now kept.lower kept.network (look_up_answer l place.new)) }
+        ensures answers_lower_and_upper_number { IfOk result (λ l. let kept = kept_or_new (table self.now.entries) (key_of question.now) in
+            l ≡ record { lower = kept.lower; upper = upper kept }) }
         ensures upper_is_the_gates { IfOk result (λ l. IfSome l.upper (λ gates. gates ≡ place.new.count)) }
         ensures no_network_leaves_the_place { IfOk result (λ l. l.upper ≡ None → place.new ≡ place.old) }
         ensures refused_leaves_the_place { OnErr result (place.new ≡ place.old) }

@@ -1,6 +1,5 @@
 // Orders.
-ghost use Rattle.std.specs.Prelude.{◌≡◌, ℕ, List, false, length, IfOk, OnErr, Some, None, MatchResult, MatchOption};
-ghost use Rattle.mig.specs.Networks.{net_of};
+ghost use Rattle.std.specs.Prelude.{◌≡◌, ℕ, List, false, length, IfOk, OnErr, None, MatchResult};
 ghost use Rattle.mig.specs.Questions.{Valid};
 ghost use Rattle.mig.specs.Rules.{refused_by};
 ghost use Rattle.search.specs.Meaning.{raised};
@@ -22,7 +21,7 @@ use mig::{Network, Question, Refusal};
 use search::Search;
 use settling::{Settled, settle};
 
-// An order's key before and after it, and how many numbers it asked.
+// What is kept of an order's key before and after it, and how many numbers it asked.
 #[derive(Clone, Copy)]
 struct Change {
     before: Entry,
@@ -60,6 +59,7 @@ impl<S: Search> Collection<S> {
             × (S.count self.new.search ≡ raised (S.count self.old.search) c.asked)
             × (table self.new.entries ≡ put (table self.old.entries) (key_of question.now) (held c.after)))
             (λ _. (self.new ≡ self.old) × (words.new ≡ words.old)) }
+        ensures nothing_asked_leaves_search_and_words { IfOk result (λ c. c.asked ≡ 0 → (self.new.search ≡ self.old.search) × (words.new ≡ words.old)) }
     {
         self.search.check(question, gates, words.len())?;
         let before = self.entries.entry_or_new(Key::of(question)?)?;
@@ -87,6 +87,7 @@ impl<S: Search> Collection<S> {
             Orders question.now gates (state (S.count self.old.search) self.old.entries buffer) (order_answer o place.new) (state (S.count self.new.search) self.new.entries buffer)) }
         ensures none_leaves_the_place { IfOk result (λ o. o.given ≡ false → place.new ≡ place.old) }
         ensures refused_alters_nothing { OnErr result ((self.new ≡ self.old) × (place.new ≡ place.old) × (words.new ≡ words.old)) }
+        ensures nothing_asked_leaves_search_and_words { IfOk result (λ o. o.asked ≡ 0 → (self.new.search ≡ self.old.search) × (words.new ≡ words.old)) }
         ensures minimum_or_none_exactly { IfOk result (λ o. RightOrder question.now gates (order_answer o place.new)) }
     {
         let change = self.settle_key(question, gates, words)?;

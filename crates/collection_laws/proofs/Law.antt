@@ -85,7 +85,7 @@ pub look_up_right : (q : Question) (h : Held) (answer : Answer) (o : Option Netw
 look_up_right q h answer None few bound keepable e = subst (RightLookUp q) (sym e) (bound_of_question q h.lower few bound, tt)
 look_up_right q h answer (Some network) few bound keepable (out, carried, e) =
     let (met, gates, counted) = given_out q network out few keepable carried in
-    subst (RightLookUp q) (sym e) (bound_of_question q h.lower few bound, (met, counted))
+    subst (RightLookUp q) (sym e) (bound_of_question q h.lower few bound, (met, gates))
 
 -- a load
 load_sound : (ps : List Part) (taken passed : ℕ) (t : Table) (l : Loaded) (t' : Table) → SoundTable t → LoadsFrom ps taken passed t l t' → SoundTable t'

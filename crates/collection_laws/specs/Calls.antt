@@ -80,11 +80,11 @@ pub record Deposits (q : Question) (network : Network) (before after : Table) : 
 abbrev pub look_up_refusal : Question → Table → Option Refusal
 look_up_refusal q t = or_else (question_refusal q) (missing_refusal t (key_of q))
 
--- the answer to a look-up, where h is kept: the lower number, and the kept network carried out to the question
+-- the answer to a look-up: the lower number, and the upper number with the kept network carried out to the question
 abbrev pub AnswersLookUp : Question → ℕ → Option Network → Answer → Type 0
 AnswersLookUp q lower None answer = answer ≡ Known lower None
 AnswersLookUp q lower (Some network) answer =
-    (out : Network) × CarriedOut q (net_of network) out × (answer ≡ Known lower (Some out))
+    (out : Network) × CarriedOut q (net_of network) out × (answer ≡ Known lower (Some (network.count, out)))
 
 -- Exports.
 

@@ -28,14 +28,14 @@ RightOrder q g (answers.Given network lower asked) = Minimum q lower network × 
 RightOrder q g (answers.NoneWithin lower asked) = NoneWithin q g × LowerBound q lower
 RightOrder q g _ = ⊥
 
--- a network that a look-up gives meets the question
-abbrev pub MeetsIfGiven : Question → Option Network → Type 0
+-- a network that a look-up gives meets the question, and the upper number beside it is the number of its gates
+abbrev pub MeetsIfGiven : Question → Option (ℕ × Network) → Type 0
 MeetsIfGiven q None = Unit {0}
-MeetsIfGiven q (Some network) = Meets q (net_of network) × (size (net_of network) ≡ network.count)
+MeetsIfGiven q (Some kept) = Meets q (net_of kept.1) × (size (net_of kept.1) ≡ kept.0)
 
 -- a look-up: the answered lower number is a lower bound, and a network that is given meets the question and has the answered gates
 abbrev pub RightLookUp : Question → Answer → Type 0
-RightLookUp q (answers.Known lower network) = LowerBound q lower × MeetsIfGiven q network
+RightLookUp q (answers.Known lower kept) = LowerBound q lower × MeetsIfGiven q kept
 RightLookUp q _ = ⊥
 
 -- what the reply to a call is worth: a refusal and the other answers say nothing of networks

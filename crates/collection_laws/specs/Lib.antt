@@ -3,3 +3,4 @@ pub mod Loads
 pub mod Runs
 pub mod Law
 pub mod Opening
+pub mod Faults

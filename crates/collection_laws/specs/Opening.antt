@@ -34,6 +34,10 @@ starters =
     ∷ starter 0x96 (gate 2 4 6 ∷ gate 3 4 6 ∷ gate 2 9 10 ∷ []) 12
     ∷ []
 
+-- how many gates each network of the starter set has
+abbrev pub starter_gates : List ℕ
+starter_gates = 2 ∷ 3 ∷ 2 ∷ 4 ∷ 1 ∷ 4 ∷ 4 ∷ 3 ∷ 4 ∷ 3 ∷ []
+
 -- the question of a table of the starter set: three inputs, under the widest limits
 abbrev pub starter_question : ℕ → Question
 starter_question table = question_of 3 table (record { depth = 7; fan_out = 19 })

@@ -1,5 +1,5 @@
 -- Runs: calls one after another, each by its rule.
-use Rattle.std.specs.Prelude.{◌≡◌, List, [], ◌∷◌, length, Option, None, Some, Result, Ok, Err}
+use Rattle.std.specs.Prelude.{Bool, true, false, ◌≡◌, List, [], ◌∷◌, length, Option, None, Some, Result, Ok, Err}
 use Rattle.mig.specs.declared.refusal.Refusal.{Refusal}
 use Rattle.mig.specs.Networks.{net_of, size}
 use Rattle.filing.specs.Filing.{key_of}
@@ -21,6 +21,11 @@ Reply = Result Answer Refusal
 abbrev pub By : Option Refusal → (Answer → State → Type 0) → State → Reply → State → Type 0
 By refusal Rule before (Ok answer) after = (refusal ≡ None) × Rule answer after
 By refusal Rule before (Err e) after = (refusal ≡ Some e) × (after ≡ before)
+
+-- whether a call is an order, which alone asks the search
+abbrev pub is_order : Call → Bool
+is_order (calls.Order q g) = true
+is_order _ = false
 
 -- one call: the state before it, its reply, and the state after it
 abbrev pub Step : Setting → State → Call → Reply → State → Type 0

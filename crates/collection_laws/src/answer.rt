@@ -1,5 +1,8 @@
 // What the calls of a collection are answered.
+ghost use Rattle.std.specs.Prelude.{◌≡◌};
+
 use mig::{Network, Refusal};
+use records::layer;
 
 // The answer to an order: whether a network is given, the lower number, and how many numbers of gates were asked.
 #[derive(Clone, Copy, Debug, PartialEq, Eq)]
@@ -32,6 +35,20 @@ pub struct Loaded {
     pub fault: Option<Fault>,
 }
 
+impl Loaded {
+    ghost use Rattle.collection_laws.specs.Faults.{fault_numbers};
+
+    // The number, the layer and the place of the fault; all 0 without a fault.
+    pub fn fault_numbers(&self) -> (u8, u8, usize)
+        ensures { result ≡ fault_numbers self.now }
+    {
+        match self.fault {
+            Some(Fault { refusal, place }) => (refusal.number(), layer(refusal), place),
+            None => (0, 0, 0),
+        }
+    }
+}
+
 // The answer to a call of a run. Networks stand in the answers, since a run has many.
 #[derive(Clone, Copy, Debug, PartialEq, Eq)]
 pub enum Answer {
@@ -50,10 +67,10 @@ pub enum Answer {
     Deposited {
         gates: u8,
     },
-    // The lower number, and the kept network as one for the question, if one is kept.
+    // The lower number, and the upper number and the kept network as one for the question, if one is kept.
     Known {
         lower: u8,
-        network: Option<Network>,
+        kept: Option<(u8, Network)>,
     },
     Struck,
     Loaded(Loaded),

@@ -1,7 +1,6 @@
 // What commands are answered, and how it is written.
-use collection_laws::{Fault, Loaded};
+use collection_laws::Loaded;
 use mig::Network;
-use records::layer;
 use std::fmt;
 
 #[derive(Clone, Copy)]
@@ -49,12 +48,11 @@ fn write_called<W: fmt::Write>(
         collection_laws::Answer::Deposited { gates } => write!(f, "{gates} gates"),
         collection_laws::Answer::Known {
             lower,
-            network: Some(network),
-        } => write!(f, "lower {lower} upper {} {network}", network.count),
-        collection_laws::Answer::Known {
-            lower,
-            network: None,
-        } => write!(f, "lower {lower} no network"),
+            kept: Some((upper, network)),
+        } => write!(f, "lower {lower} upper {upper} {network}"),
+        collection_laws::Answer::Known { lower, kept: None } => {
+            write!(f, "lower {lower} no network")
+        }
         collection_laws::Answer::Struck => write!(f, "0"),
         collection_laws::Answer::Loaded(loaded) => write_loaded(loaded, f),
         collection_laws::Answer::Exported { bytes } => write!(f, "{bytes} bytes"),
@@ -63,15 +61,8 @@ fn write_called<W: fmt::Write>(
 
 // How many records were taken and passed over, and the fault; where there is none, its three numbers are 0.
 fn write_loaded<W: fmt::Write>(loaded: &Loaded, f: &mut fmt::Formatter<W>) -> fmt::Result {
-    let Loaded {
-        taken,
-        passed,
-        fault,
-    } = *loaded;
-    let (number, layer, place) = match fault {
-        Some(Fault { refusal, place }) => (refusal.number(), layer(refusal), place),
-        None => (0, 0, 0),
-    };
+    let (number, layer, place) = loaded.fault_numbers();
+    let Loaded { taken, passed, .. } = *loaded;
     write!(
         f,
         "taken {taken} passed {passed} fault {number} layer {layer} place {place}"

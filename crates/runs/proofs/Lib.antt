@@ -1,1 +1,2 @@
+mod Starters
 mod Whole

@@ -1,8 +1,10 @@
 // Opening a collection.
-ghost use Rattle.std.specs.Prelude.{◌≡◌, ◌≤◌, length};
+ghost use Rattle.std.specs.Prelude.{◌≡◌, ◌≤◌, length, None, map};
+ghost use Rattle.std.specs.List.{AllByRecursion};
+ghost use Rattle.mig.specs.Rules.{examine_refusal};
 ghost use Rattle.mig.specs.Networks.{network_of};
 ghost use Rattle.entries.specs.Rows.{table};
-ghost use Rattle.collection_laws.specs.Opening.{gate, starters, starter, starter_question, Opens, DepositsOne};
+ghost use Rattle.collection_laws.specs.Opening.{gate, starters, starter_gates, starter, starter_question, Opens, DepositsOne};
 
 use collection::Collection;
 use collection_laws::Opening;
@@ -24,7 +26,7 @@ fn network(gates: &[Gate], output: u8) -> Network
     requires { length gates.now ≤ 7 }
     ensures { result ≡ network_of (record { gates = gates.now; output = output }) }
 {
-    // Two lines of the library, as in other crates: a public function would have to answer for eight gates too.
+    // A public function for this, and the same in crate known_cells, would have to answer for eight gates too.
     let mut places = [Gate::default(); 7];
     places[..gates.len()].copy_from_slice(gates);
     Network {
@@ -103,6 +105,8 @@ fn deposit_starter<S>(collection: &mut Collection<S>, starter: (u32, Network))
 pub fn open<S>(search: S, opening: Opening) -> Collection<S>
     ensures search_as_given { result.search ≡ search }
     ensures opened_by_the_rule { Opens opening (table result.entries) }
+    ensures starters_meet_their_questions { AllByRecursion (λ x. examine_refusal (starter_question x.0) x.1 ≡ None) starters }
+    ensures gates_of_the_starters { map (λ x. x.1.count) starters ≡ starter_gates }
 {
     let mut collection = Collection::empty(search);
     if let Opening::WithStarters = opening {

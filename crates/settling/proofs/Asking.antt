@@ -17,7 +17,7 @@ few_counted : (k : Key) (r : ℕ) (network : Network) → Holds (key_question k)
 few_counted k r network h = omega (arith, ap (λ (n : Network). n.count) h.cleared, h.few)
 
 -- an order that asks has its first number below the one where it stops
-asks_below_stop : (k : Key) (g : ℕ) (h : Held) → Sound k h → h.lower ≤ g → is_settled h ≡ false → h.lower < stop g h
+pub asks_below_stop : (k : Key) (g : ℕ) (h : Held) → Sound k h → h.lower ≤ g → is_settled h ≡ false → h.lower < stop g h
 asks_below_stop k g h s few unsettled = below (upper h) (upper_not_below k h s) unsettled
   where
     below : (u : Option ℕ) → IfSome u (λ n. h.lower ≤ n) → is_number h.lower u ≡ false → h.lower < at_most (g + 1) u

@@ -81,6 +81,7 @@ pub fn settle<S: Search>(
     ensures keeps_the_key { IfOk result (λ s. s.entry.key ≡ entry.key) }
     ensures settled_by_the_rule { MatchResult result (λ s. (S.count search.new ≡ raised (S.count search.old) s.asked) × Settles entry.key gates (held entry) (held s.entry) s.asked)
         (λ _. (search.new ≡ search.old) × (words.new ≡ words.old)) }
+    ensures nothing_asked_leaves_search_and_words { IfOk result (λ s. s.asked ≡ 0 → (search.new ≡ search.old) × (words.new ≡ words.old)) }
     ensures asks_nothing_again { IfOk result (λ s. IsTrue (asks_nothing gates (held s.entry))) }
 {
     let question = entry.key.question();

@@ -4,7 +4,7 @@ use Rattle.filing.specs.Filing.{key_question}
 use Rattle.entry.specs.Held.{held, stop}
 use Rattle.settling.specs.Settles.{Settles}
 use Rattle.settling.proofs.Again.{again_asks_nothing}
-use Rattle.settling.proofs.Asking.{found_settles, none_settles}
+use Rattle.settling.proofs.Asking.{asks_below_stop, found_settles, none_settles}
 use Rattle.settling.proofs.Bounds.{entry_sound}
 use Rattle.settling.proofs.settle.Given.{Over}
 use Rattle.settling.proofs.settle.Goals as goal
@@ -60,3 +60,12 @@ returns-in-Err-clause-settled_by_the_rule g c = (c.in_ok-least.ensures.asked_up_
 pub returns-in-Err-clause-asks_nothing_again : goal.returns-in-Err-clause-asks_nothing_again
 returns-in-Err-clause-asks_nothing_again g c =
     again_asks_nothing c.args.entry.key c.args.gates (held c.args.entry) (held c.with_lower-entry.result) c.in_ok-least.field-0.times (entry_sound c.args.entry) (none g c)
+
+pub returns-in-Err-clause-nothing_asked_leaves_search_and_words : goal.returns-in-Err-clause-nothing_asked_leaves_search_and_words
+returns-in-Err-clause-nothing_asked_leaves_search_and_words g c nothing =
+    let entry = c.args.entry in
+    let settled = sym c.is_settled.ensures ∙ c.if-is_settled.false in
+    let some = asks_below_stop entry.key c.args.gates (held entry) (entry_sound entry) c.if-gates-entry.false settled in
+    let f : NoneFound (key_question entry.key) entry.lower (stop c.args.gates (held entry)) c.in-Err.lower c.in_ok-least.field-0.times c.default-found.result c.least_gates.new.place =
+    rw (c.question-question.ensures, c.stop-end.ensures, c.in-Err.is) at c.in_ok-least.ensures.asked_up_to_the_first_found.1 in
+    absurd (omega (arith, some, f.all_counted, nothing))

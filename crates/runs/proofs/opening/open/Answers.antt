@@ -2,6 +2,7 @@ use Rattle.std.proofs.Common.{rules, ◌≡◌, ◌<◌, length, arith}
 use Rattle.entries.specs.Rows.{table}
 use Rattle.collection_laws.specs.declared.call.Opening.TheVariants.{WithStarters}
 use Rattle.collection_laws.specs.Opening.{starters}
+use Rattle.runs.proofs.Starters.{starters_meet}
 use Rattle.runs.proofs.Whole.{deposits_next, deposits_none}
 use Rattle.runs.proofs.opening.open.Goals as goal
 
@@ -22,3 +23,9 @@ returns-after-loop-starter-clause-opened_by_the_rule g c =
     let t = table c.loop-starter.collection.entries in
     let opening : c.args.opening ≡ WithStarters = search rules in
     rw opening (c.loop-starter.invariant.deposited t (deposits_none starters c.loop-starter.starter-index t (omega arith)))
+
+pub returns-after-loop-starter-clause-starters_meet_their_questions : goal.returns-after-loop-starter-clause-starters_meet_their_questions
+returns-after-loop-starter-clause-starters_meet_their_questions g c = starters_meet
+
+pub returns-in_default-clause-starters_meet_their_questions : goal.returns-in_default-clause-starters_meet_their_questions
+returns-in_default-clause-starters_meet_their_questions g c = starters_meet

@@ -3,7 +3,7 @@ use Rattle.filing.specs.Filing.{key_of}
 use Rattle.entry.specs.Held.{held, gates_of}
 use Rattle.collection_laws.specs.declared.answer.Answer.TheVariants.{Known}
 use Rattle.collection_laws.proofs.Law.{look_up_right}
-use Rattle.collection.specs.State.{if_number, GivenOut}
+use Rattle.collection.specs.State.{with_place, GivenOut}
 use Rattle.collection.proofs.Given.{upper_given, answers_look_up, sound_entry}
 use Rattle.collection.proofs.collection.Collection.look_up.Goals as goal
 
@@ -26,5 +26,5 @@ returns-clause-lower_bound_and_network_are_right g c =
     let out : GivenOut q entry.network c.args.place.now place = search rules in
     let sound = sound_entry entry (key_of q) key in
     rw c.upper.ensures
-    (look_up_right q (held entry) (Known entry.lower (if_number (gates_of entry.network) place)) entry.network few sound.lower_bound sound.keepable
+    (look_up_right q (held entry) (Known entry.lower (with_place (gates_of entry.network) place)) entry.network few sound.lower_bound sound.keepable
     (answers_look_up q entry.lower c.args.place.now place entry.network out))
