@@ -10,11 +10,7 @@ use Rattle.collection_laws.specs.declared.answer.Answer.{Answer}
 use Rattle.collection_laws.specs.declared.answer.Answer.TheVariants.{Given, NoneWithin, Known}
 use Rattle.collection_laws.specs.declared.answer.Ordered.{Ordered}
 use Rattle.collection_laws.specs.declared.answer.LookedUp.{LookedUp}
-use Rattle.collection_laws.specs.Calls.{Setting, State}
-
--- the setting of a search with a reach and a need, where so many work words are lent
-abbrev pub setting : ℕ → ℕ → ℕ → Setting
-setting reach need words = record { reach = reach; need = need; words = words }
+use Rattle.collection_laws.specs.Calls.{State}
 
 -- the state of a collection with the count of its search, its entries, and a buffer
 abbrev pub state : ℕ → Entries → List ℕ → State

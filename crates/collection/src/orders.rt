@@ -10,7 +10,8 @@ ghost use Rattle.entries.specs.Table.{kept_or_new, put};
 ghost use Rattle.entries.specs.Rows.{table};
 ghost use Rattle.collection_laws.specs.Calls.{order_refusal, network_given, Orders};
 ghost use Rattle.collection_laws.specs.Law.{RightOrder};
-ghost use Rattle.collection.specs.State.{setting, state, order_answer};
+ghost use Rattle.collection.specs.State.{state, order_answer};
+ghost use Rattle.collection_laws.specs.Runs.{lent};
 
 use crate::collection::Collection;
 use crate::giving::give_out;
@@ -49,7 +50,7 @@ impl<S: Search> Collection<S> {
         gates: u8,
         words: &mut [u32],
     ) -> Result<Change, Refusal>
-        ensures refused_by_the_rule { refused_by result ≡ order_refusal (setting (S.reach self.old.search) (S.need self.old.search) (length words.old)) question.now gates (table self.old.entries) }
+        ensures refused_by_the_rule { refused_by result ≡ order_refusal (lent (S.reach self.old.search) (S.need self.old.search) (length words.old)) question.now gates (table self.old.entries) }
         ensures reach_and_need_stay { (S.reach self.new.search ≡ S.reach self.old.search) × (S.need self.new.search ≡ S.need self.old.search) }
         ensures question_within_bounds { IfOk result (λ c. Valid question.now) }
         ensures of_the_key { IfOk result (λ c. (c.before.key ≡ key_of question.now) × (c.after.key ≡ key_of question.now)) }
@@ -81,7 +82,7 @@ impl<S: Search> Collection<S> {
         place: &mut Network,
         words: &mut [u32],
     ) -> Result<Ordered, Refusal>
-        ensures refused_by_the_rule { refused_by result ≡ order_refusal (setting (S.reach self.old.search) (S.need self.old.search) (length words.old)) question.now gates (table self.old.entries) }
+        ensures refused_by_the_rule { refused_by result ≡ order_refusal (lent (S.reach self.old.search) (S.need self.old.search) (length words.old)) question.now gates (table self.old.entries) }
         ensures reach_and_need_stay { (S.reach self.new.search ≡ S.reach self.old.search) × (S.need self.new.search ≡ S.need self.old.search) }
         ensures ordered_by_the_rule { IfOk result (λ o. (buffer : List ℕ) →
             Orders question.now gates (state (S.count self.old.search) self.old.entries buffer) (order_answer o place.new) (state (S.count self.new.search) self.new.entries buffer)) }

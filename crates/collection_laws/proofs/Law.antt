@@ -22,7 +22,7 @@ use Rattle.collection_laws.specs.declared.call.Call.{Call}
 use Rattle.collection_laws.specs.declared.call.Call.TheVariants as calls
 use Rattle.collection_laws.specs.Calls.{Setting, State, network_given, AnswersOrder, Orders, deposits_refusal, Deposits, AnswersLookUp}
 use Rattle.collection_laws.specs.Loads.{is_passed_over, LoadsRefused, LoadsRecord, LoadsPart, LoadsFrom}
-use Rattle.collection_laws.specs.Runs.{Reply, Step, Run}
+use Rattle.collection_laws.specs.Runs.{Reply, Step, Run, lent, History}
 use Rattle.collection_laws.specs.Law.{RightOrder, RightLookUp, Right, AllRight, SoundTable}
 use Rattle.collection_laws.proofs.Tables.{sound_put, sound_struck, sound_kept}
 use Rattle.collection_laws.proofs.Questions.{bound_of_question, none_of_question, given_out}
@@ -133,17 +133,6 @@ step_right s b (calls.Load bytes) (Err e) a all (l, t, loads, is, leaves) =
 step_right s b calls.Export (Ok answer) a all (none, (is, leaves)) = (tt, subst (λ (x : State). SoundTable x.table) (sym leaves) all)
 step_right s b calls.Export (Err e) a all (some, same) = (tt, subst (λ (x : State). SoundTable x.table) (sym same) all)
 
--- every call of a run
-pub run_right : (s : Setting) (b : State) (cs : List Call) (rs : List Reply) (a : State) → SoundTable b.table → Run s b cs rs a → AllRight cs rs × SoundTable a.table
-unfolding Run AllRight
-run_right s b [] [] a all same = (tt, subst (λ (x : State). SoundTable x.table) (sym same) all)
-run_right s b [] (r ∷ rs) a all run = absurd run
-run_right s b (c ∷ cs) [] a all run = absurd run
-run_right s b (c ∷ cs) (r ∷ rs) a all (m, step, run) =
-    let (right, there) = step_right s b c r m all step in
-    let (rest, end) = run_right s m cs rs a there run in
-    ((right, rest), end)
-
 -- a run and another one behind it are a run
 pub runs_compose : (s : Setting) (b m a : State) (cs ds : List Call) (rs us : List Reply) → Run s b cs rs m → Run s m ds us a → Run s b (cs ++ ds) (rs ++ us) a
 unfolding Run
@@ -151,3 +140,31 @@ runs_compose s b m a [] ds [] us same run = subst (λ x. Run s x ds us a) same r
 runs_compose s b m a [] ds (r ∷ rs) us first run = absurd first
 runs_compose s b m a (c ∷ cs) ds [] us first run = absurd first
 runs_compose s b m a (c ∷ cs) ds (r ∷ rs) us (n, step, first) run = (n, step, runs_compose s n m a cs ds rs us first run)
+
+-- a run is a history, with the same number of work words at each call
+pub run_is_history : (reach need words : ℕ) (b : State) (cs : List Call) (rs : List Reply) (a : State) → Run (lent reach need words) b cs rs a → History reach need b cs rs a
+unfolding Run History
+run_is_history reach need words b [] [] a same = same
+run_is_history reach need words b [] (r ∷ rs) a run = absurd run
+run_is_history reach need words b (c ∷ cs) [] a run = absurd run
+run_is_history reach need words b (c ∷ cs) (r ∷ rs) a (m, step, run) = (words, m, step, run_is_history reach need words m cs rs a run)
+
+-- a history and another one behind it are a history
+pub histories_compose : (reach need : ℕ) (b m a : State) (cs ds : List Call) (rs us : List Reply) → History reach need b cs rs m → History reach need m ds us a
+    → History reach need b (cs ++ ds) (rs ++ us) a
+unfolding History
+histories_compose reach need b m a [] ds [] us same later = subst (λ x. History reach need x ds us a) same later
+histories_compose reach need b m a [] ds (r ∷ rs) us first later = absurd first
+histories_compose reach need b m a (c ∷ cs) ds [] us first later = absurd first
+histories_compose reach need b m a (c ∷ cs) ds (r ∷ rs) us (words, n, step, first) later = (words, n, step, histories_compose reach need n m a cs ds rs us first later)
+
+-- every call of a history
+pub history_right : (reach need : ℕ) (b : State) (cs : List Call) (rs : List Reply) (a : State) → SoundTable b.table → History reach need b cs rs a → AllRight cs rs × SoundTable a.table
+unfolding History AllRight
+history_right reach need b [] [] a all same = (tt, subst (λ (x : State). SoundTable x.table) (sym same) all)
+history_right reach need b [] (r ∷ rs) a all history = absurd history
+history_right reach need b (c ∷ cs) [] a all history = absurd history
+history_right reach need b (c ∷ cs) (r ∷ rs) a all (words, m, step, history) =
+    let (right, there) = step_right (lent reach need words) b c r m all step in
+    let (rest, end) = history_right reach need m cs rs a there history in
+    ((right, rest), end)

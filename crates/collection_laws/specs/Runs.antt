@@ -1,5 +1,5 @@
 -- Runs: calls one after another, each by its rule.
-use Rattle.std.specs.Prelude.{Bool, true, false, ◌≡◌, List, [], ◌∷◌, length, Option, None, Some, Result, Ok, Err}
+use Rattle.std.specs.Prelude.{◌≡◌, ℕ, Bool, true, false, List, [], ◌∷◌, length, Option, None, Some, Result, Ok, Err}
 use Rattle.mig.specs.declared.refusal.Refusal.{Refusal}
 use Rattle.mig.specs.Networks.{net_of, size}
 use Rattle.filing.specs.Filing.{key_of}
@@ -50,3 +50,15 @@ Run s b [] [] a = a ≡ b
 Run s b [] (r ∷ rs) a = ⊥
 Run s b (c ∷ cs) [] a = ⊥
 Run s b (c ∷ cs) (r ∷ rs) a = (m : State) × Step s b c r m × Run s m cs rs a
+
+-- a search with a reach and a need, where so many work words are lent
+abbrev pub lent : ℕ → ℕ → ℕ → Setting
+lent reach need words = record { reach = reach; need = need; words = words }
+
+-- A history of a collection over a search with a reach and a need: calls one after another, their replies, and the state that they lead
+-- to, where each call may have been lent another number of work words.
+unfoldable pub History : ℕ → ℕ → State → List Call → List Reply → State → Type 0
+History reach need b [] [] a = a ≡ b
+History reach need b [] (r ∷ rs) a = ⊥
+History reach need b (c ∷ cs) [] a = ⊥
+History reach need b (c ∷ cs) (r ∷ rs) a = (words : ℕ) × (m : State) × Step (lent reach need words) b c r m × History reach need m cs rs a

@@ -12,10 +12,10 @@ use Rattle.collection_laws.specs.declared.call.Call.{Call}
 use Rattle.collection_laws.specs.declared.call.Opening.{Opening}
 use Rattle.collection_laws.specs.declared.call.Opening.TheVariants.{Empty, WithStarters}
 use Rattle.collection_laws.specs.Calls.{Setting, State, deposits_refusal, Deposits}
-use Rattle.collection_laws.specs.Runs.{Reply, Step, Run}
+use Rattle.collection_laws.specs.Runs.{Reply, Step, lent, Run, History}
 use Rattle.collection_laws.specs.Law.{SoundTable, AllRight}
 use Rattle.collection_laws.specs.Opening.{starters, starter_question, DepositsUnless, DepositsOne, DepositsAll, Opens}
-use Rattle.collection_laws.proofs.Law.{neither, deposit_sound, run_right, runs_compose}
+use Rattle.collection_laws.proofs.Law.{neither, deposit_sound, runs_compose, run_is_history, histories_compose, history_right}
 
 -- where two lists agree from a place on, they agree from the next
 pub drop-next : {X : Type 0} (xs ys : List X) (i : ℕ) → drop i xs ≡ drop i ys → drop (i + 1) xs ≡ drop (i + 1) ys
@@ -54,10 +54,20 @@ opened_sound : (o : Opening) (t : Table) → Opens o t → SoundTable t
 opened_sound Empty t same = subst SoundTable (sym same) tt
 opened_sound WithStarters t deposits = deposits_sound starters [] t tt deposits
 
--- every reply of a run from an opening, and of another one behind it, is right
-pub whole_right : (s : Setting) (o : Opening) (b m a : State) (cs ds : List Call) (rs us : List Reply) → Opens o b.table → Run s b cs rs m → Run s m ds us a → AllRight (cs ++ ds) (rs ++ us)
-whole_right s o b m a cs ds rs us opens first later =
-    (run_right s b (cs ++ ds) (rs ++ us) a (opened_sound o b.table opens) (runs_compose s b m a cs ds rs us first later)).0
+-- every reply of a run is right, where what is kept is right
+pub replies_right : (reach need words : ℕ) (b : State) (cs : List Call) (rs : List Reply) (a : State) → SoundTable b.table → Run (lent reach need words) b cs rs a → AllRight cs rs
+replies_right reach need words b cs rs a all run = (history_right reach need b cs rs a all (run_is_history reach need words b cs rs a run)).0
+
+-- a run behind a history
+pub history_then : (reach need words : ℕ) (b m a : State) (cs ds : List Call) (rs us : List Reply) → History reach need b cs rs m → Run (lent reach need words) m ds us a
+    → History reach need b (cs ++ ds) (rs ++ us) a
+history_then reach need words b m a cs ds rs us earlier run = histories_compose reach need b m a cs ds rs us earlier (run_is_history reach need words m ds us a run)
+
+-- every reply of a history from an opening, and of a run behind it, is right
+pub whole_right : (reach need words : ℕ) (o : Opening) (b m a : State) (cs ds : List Call) (rs us : List Reply) → Opens o b.table → History reach need b cs rs m → Run (lent reach need words) m ds us a
+    → AllRight (cs ++ ds) (rs ++ us)
+whole_right reach need words o b m a cs ds rs us opens earlier run =
+    (history_right reach need b (cs ++ ds) (rs ++ us) a (opened_sound o b.table opens) (history_then reach need words b m a cs ds rs us earlier run)).0
 
 -- what a deposit leaves, by whether it is refused
 pub one_deposited : {X C : Type 0} (table_in : C → Table) (before after : C) (r : Result X Refusal) (o : Option Refusal) (q : Question) (network : Network) → refused_by r ≡ o

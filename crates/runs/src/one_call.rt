@@ -6,8 +6,8 @@ ghost use Rattle.entries.specs.Table.{kept_or_new};
 ghost use Rattle.entries.specs.Rows.{table};
 ghost use Rattle.collection_laws.specs.Calls.{look_up_refusal, AnswersLookUp};
 ghost use Rattle.collection_laws.specs.declared.call.Call.TheVariants.{Order as TheOrder};
-ghost use Rattle.collection_laws.specs.Runs.{is_order, Step};
-ghost use Rattle.collection.specs.State.{setting, state};
+ghost use Rattle.collection_laws.specs.Runs.{is_order, lent, Step};
+ghost use Rattle.collection.specs.State.{state};
 
 use collection::Collection;
 use collection_laws::{Answer, Call, LookedUp, Ordered};
@@ -24,7 +24,7 @@ fn order<S: Search>(
 ) -> Result<Answer, Refusal>
     ensures reach_and_need_stay { (S.reach collection.new.search ≡ S.reach collection.old.search) × (S.need collection.new.search ≡ S.need collection.old.search) }
     ensures refused_alters_nothing { OnErr result ((collection.new ≡ collection.old) × (words.new ≡ words.old)) }
-    ensures ordered_by_the_rule { let s = setting (S.reach collection.old.search) (S.need collection.old.search) (length words.old) in (buffer : List ℕ) →
+    ensures ordered_by_the_rule { let s = lent (S.reach collection.old.search) (S.need collection.old.search) (length words.old) in (buffer : List ℕ) →
         Step s (state (S.count collection.old.search) collection.old.entries buffer) (TheOrder question.now gates) result
         (state (S.count collection.new.search) collection.new.entries buffer) }
 {
@@ -70,7 +70,7 @@ pub fn perform<S: Search>(
     ensures words_stay_as_many { length words.new ≡ length words.old }
     ensures refused_alters_nothing { OnErr result ((collection.new ≡ collection.old) × (words.new ≡ words.old) × (buffer.new ≡ buffer.old)) }
     ensures orders_alone_use_search_and_words { is_order call.now ≡ false → (collection.new.search ≡ collection.old.search) × (words.new ≡ words.old) }
-    ensures performed_by_its_rule { Step (setting (S.reach collection.old.search) (S.need collection.old.search) (length words.old))
+    ensures performed_by_its_rule { Step (lent (S.reach collection.old.search) (S.need collection.old.search) (length words.old))
         (state (S.count collection.old.search) collection.old.entries buffer.old) call.now result
         (state (S.count collection.new.search) collection.new.entries buffer.new) }
 {

@@ -2,8 +2,7 @@ use Rattle.std.proofs.Common.{rules, ◌≡◌, ℕ, suc, ◌+◌, ◌<◌, ◌+
 use Rattle.std.proofs.Math.Seq.{take-suc-set, take-suc}
 use Rattle.std.proofs.lemmas.List.{drop-set-lt}
 use Rattle.collection_laws.specs.declared.call.Call.TheVariants.{Order}
-use Rattle.collection_laws.proofs.Law.{run_right, runs_compose}
-use Rattle.runs.proofs.Whole.{drop-next, sound_rows, run_then, run_none, whole_right}
+use Rattle.runs.proofs.Whole.{drop-next, sound_rows, run_then, run_none, history_then, replies_right, whole_right}
 use Rattle.runs.proofs.running.run.Goals as goal
 
 pub loop-i-init : goal.loop-i-init
@@ -36,14 +35,14 @@ loop-i-preserved g c =
 pub returns-clause-every_reply_is_right : goal.returns-clause-every_reply_is_right
 returns-clause-every_reply_is_right g c =
     let all : c.loop-i.i ≡ c.min-count.result = search rules in
-    rw (← all) (run_right _ _ _ _ _ (sound_rows c.args.collection.now.entries.rows.items) c.loop-i.invariant.run).0
+    rw (← all) (replies_right _ _ _ _ _ _ _ (sound_rows c.args.collection.now.entries.rows.items) c.loop-i.invariant.run)
 
-pub returns-clause-composes_with_an_earlier_run : goal.returns-clause-composes_with_an_earlier_run
-returns-clause-composes_with_an_earlier_run g c b cs rs earlier =
+pub returns-clause-continues_an_earlier_history : goal.returns-clause-continues_an_earlier_history
+returns-clause-continues_an_earlier_history g c b cs rs earlier =
     let all : c.loop-i.i ≡ c.min-count.result = search rules in
-    rw (← all) (runs_compose _ b _ _ cs _ rs _ earlier c.loop-i.invariant.run)
+    rw (← all) (history_then _ _ _ b _ _ cs _ rs _ earlier c.loop-i.invariant.run)
 
-pub returns-clause-whole_run_from_an_opening_is_right : goal.returns-clause-whole_run_from_an_opening_is_right
-returns-clause-whole_run_from_an_opening_is_right g c o b cs rs opens earlier =
+pub returns-clause-whole_history_from_an_opening_is_right : goal.returns-clause-whole_history_from_an_opening_is_right
+returns-clause-whole_history_from_an_opening_is_right g c o b cs rs opens earlier =
     let all : c.loop-i.i ≡ c.min-count.result = search rules in
-    rw (← all) (whole_right _ o b _ _ cs _ rs _ opens earlier c.loop-i.invariant.run)
+    rw (← all) (whole_right _ _ _ o b _ _ cs _ rs _ opens earlier c.loop-i.invariant.run)
