@@ -1,0 +1,2 @@
+// Laws of the clauses of a question.
+#![tactic(auto)]
