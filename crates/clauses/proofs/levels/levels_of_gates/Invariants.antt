@@ -1,0 +1,14 @@
+use Rattle.std.proofs.Common.{suc, ◌+◌, ◌-◌, cond, leb, [], ◌∷◌, length}
+use Rattle.mig.specs.Tables.{bit_at}
+use Rattle.cnf.specs.Variables.{S, H, O, K, pos, neg, NamedClause, each, each_gate, each_fan_in, each_row, uses_of, outnumber}
+use Rattle.cnf.specs.Clauses.{exactly_one, given, fan_in_given, fan_in_gate, gate_majority, output_given, output_gate, counter, counter_step}
+use Rattle.cnf.specs.Numbers.{numbered}
+use Rattle.clauses.specs.Numbering.{numbered_by}
+use Rattle.clauses.specs.Choices.{variable_of}
+use Rattle.clauses.specs.Uses.{use_at}
+use Rattle.clauses.proofs.levels.levels_of_gates.Given as goal
+
+-- the gates so far
+abbrev pub invariant-loop-gate : goal.invariant-loop-gate
+invariant-loop-gate g l =
+    g.S.ClauseSink.took l.initial.sink (numbered (numbered_by l.numbering) (each (suc l.numbering.inputs) (l.gate - suc l.numbering.inputs) (λ i. (pos (H i 0) ∷ []) ∷ each_fan_in (λ b. each (suc l.numbering.inputs) (i - suc l.numbering.inputs) (λ j. each 0 l.numbering.depth (λ e. (neg (S i b j) ∷ neg (H j e) ∷ pos (H i (e + 1)) ∷ []) ∷ [])))))) l.sink

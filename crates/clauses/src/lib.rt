@@ -1,0 +1,10 @@
+// The clauses of a question and a number of gates, given to a sink one after another.
+#![tactic(auto)]
+
+mod choices;
+mod fan_outs;
+mod levels;
+mod literals;
+mod numbering;
+mod output;
+mod values;
