@@ -6,3 +6,4 @@ pub mod Values
 pub mod Codes
 pub mod Equations
 pub mod Uses
+pub mod Numbering
