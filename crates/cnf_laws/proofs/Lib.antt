@@ -7,3 +7,6 @@ pub mod Codes
 pub mod Equations
 pub mod Uses
 pub mod Numbering
+pub mod Groups
+pub mod ReadBack
+pub mod ReadBackLevels
