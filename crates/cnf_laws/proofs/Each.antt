@@ -1,5 +1,6 @@
 -- Lists and sums of one part after another, one more at the end; how many uses a gate has.
-use Rattle.std.proofs.Common.{◌≡◌, ℕ, zero, suc, ◌+◌, ◌-◌, ◌*◌, ◌≤◌, List, [], ◌∷◌, ◌++◌, map, length, sym, refl, ap, ◌∙◌, arith, append_assoc, append-nil, suc-mul, mul-suc, one-mul, zero-mul}
+use Rattle.std.proofs.Common.{◌≡◌, ℕ, zero, suc, ◌+◌, ◌-◌, ◌*◌, ◌<◌, ◌≤◌, List, [], ◌∷◌, ◌++◌, map, length, sym, refl, ap, ◌∙◌, arith, append_assoc, append-nil, suc-mul, mul-suc, one-mul, zero-mul}
+use Rattle.std.specs.List.{AllByRecursion}
 use Rattle.std.proofs.lemmas.List.{length-append}
 use Rattle.cnf.specs.Variables.{Var, S, O, NamedClause, each, uses_of}
 use Rattle.cnf.specs.Numbers.{total, numbered, numbered_literal}
@@ -63,3 +64,15 @@ length_uses n r j =
       length-append (each (suc j) (n + r - j) (λ i. S i 1 j ∷ S i 2 j ∷ S i 3 j ∷ [])) (O j ∷ []),
       fan_in_uses j (suc j) (n + r - j),
     )
+
+-- a property of each element of two lists holds of each of both
+pub all_both : {X : Type 0} (P : X → Type 0) (xs ys : List X) → AllByRecursion P xs → AllByRecursion P ys → AllByRecursion P (xs ++ ys)
+all_both P [] ys h k = k
+all_both P (x ∷ xs) ys h k = (h.0, all_both P xs ys h.1 k)
+
+pub all_each : {X : Type 0} (P : X → Type 0) (a m : ℕ) (f : ℕ → List X)
+    → ((k : ℕ) → a ≤ k → k < a + m → AllByRecursion P (f k)) → AllByRecursion P (each a m f)
+unfolding each
+all_each P a zero f h = tt
+all_each P a (suc m) f h =
+    all_both P (f a) (each (suc a) m f) (h a (omega arith) (omega arith)) (all_each P (suc a) m f (λ k l u. h k (omega arith) (omega arith)))

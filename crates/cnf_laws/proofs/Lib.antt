@@ -10,3 +10,5 @@ pub mod Numbering
 pub mod Groups
 pub mod ReadBack
 pub mod ReadBackLevels
+pub mod ReadBackFanOuts
+pub mod Meanings
