@@ -12,3 +12,6 @@ pub mod ReadBack
 pub mod ReadBackLevels
 pub mod ReadBackFanOuts
 pub mod Meanings
+pub mod Padded
+pub mod Contained
+pub mod Listed
