@@ -15,3 +15,4 @@ pub mod Meanings
 pub mod Padded
 pub mod Contained
 pub mod Listed
+pub mod Numbered

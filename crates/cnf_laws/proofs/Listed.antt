@@ -2,13 +2,14 @@
 use Rattle.std.proofs.Common.{◌≡◌, ℕ, zero, suc, ◌+◌, ◌-◌, ◌^◌, ◌<◌, ◌≤◌, Bool, true, false, cond, ltb, leb, List, [], ◌∷◌, ◌++◌, length, get_or, All, refl, arith}
 use Rattle.std.specs.List.{AllByRecursion, Contains}
 use Rattle.std.proofs.lemmas.Bool.{leb-false, ltb-true}
-use Rattle.std.proofs.lemmas.List.Elements.{All-get_or, All-from_recursion}
+use Rattle.std.proofs.lemmas.List.Elements.{All-from_recursion, All-weaker}
 use Rattle.mig.specs.declared.question.Question.{Question}
 use Rattle.mig.specs.Tables.{bit_at}
 use Rattle.cnf.specs.Variables.{Var, S, N, A, B, O, Q, H, K, NamedLiteral, pos, neg, NamedClause, each, uses_of, outnumber, variables}
 use Rattle.cnf.specs.Clauses.{exactly_one, given, fan_in_given, fan_in_gate, gate_majority, output_given, output_gate, counter, counter_step, fan_ins_chosen, fan_in_values, gate_values, output_chosen, output_values, levels_limited, fan_outs_limited, clauses_of}
 use Rattle.cnf.specs.Numbers.{question_variables}
 use Rattle.cnf_laws.proofs.Each.{all_both, all_each}
+use Rattle.cnf_laws.proofs.Uses.{use_has}
 use Rattle.cnf_laws.proofs.Contained.{IsListed, has_S, has_N, has_A, has_B, has_O, has_Q, has_H, has_K}
 
 -- the variable of a literal
@@ -77,12 +78,7 @@ module _ (n d f r : ℕ) (some : 1 ≤ f) where
       (all_each Listed (suc n) r _ (λ j a b. ((has_O n d f r j b, (has_H n d f r j d a b (omega arith), tt)), tt)))
 
   use_listed : (j p : ℕ) → n < j → j < suc n + r → p < length (uses_of n r j) → IsListed n d f r (get_or (uses_of n r j) p Q)
-  use_listed j p a b l = All-get_or (IsListed n d f r) (uses_of n r j) p Q l (All-from_recursion (IsListed n d f r) (uses_of n r j) (all_both (IsListed n d f r) (each (suc j) (n + r - j) (λ i. S i 1 j ∷ S i 2 j ∷ S i 3 j ∷ [])) _
-      (all_each (IsListed n d f r) (suc j) (n + r - j) _ (λ i v w. (
-        has_S n d f r i 1 j (omega arith) (omega arith) (omega arith) (omega arith) v,
-        (has_S n d f r i 2 j (omega arith) (omega arith) (omega arith) (omega arith) v, (has_S n d f r i 3 j (omega arith) (omega arith) (omega arith) (omega arith) v, tt)),
-      )))
-      (has_O n d f r j b, tt)))
+  use_listed j p a b = use_has (IsListed n d f r) n r j (λ i c l u v w. has_S n d f r i c j (omega arith) u v w l) (has_O n d f r j b) p
 
   counter_listed : (j k : ℕ) → n < j → j < suc n + r → outnumber n f r j ≡ true → 1 ≤ k → k ≤ length (uses_of n r j)
       → AllByRecursion Listed (counter f j (get_or (uses_of n r j) (k - 1) Q) k)
@@ -110,18 +106,26 @@ module _ (n d f r : ℕ) (some : 1 ≤ f) where
       at j a b true e = all_each Listed 1 (length (uses_of n r j)) _ (λ k l u. counter_listed j k a b e l (omega arith))
       at j a b false e = tt
 
--- each variable of the clauses stands in the list of variables
-pub variables_listed : (q : Question) (r : ℕ) → 1 ≤ q.limits.fan_out
-    → AllByRecursion (IsListedClause (question_variables q r)) (clauses_of q.inputs q.table q.limits.depth q.limits.fan_out r)
-unfolding clauses_of
-variables_listed q r some =
-    let n = q.inputs in
-    let d = q.limits.depth in
-    let f = q.limits.fan_out in
-    let P = IsListedClause (question_variables q r) in
-    all_both P (fan_ins_chosen n r) _ (fan_ins_listed n d f r some)
-    (all_both P (fan_in_values n r) _ (fan_in_values_listed n d f r some)
-    (all_both P (gate_values n r) _ (gate_values_listed n d f r some)
-    (all_both P (output_chosen n r) _ (output_listed n d f r some)
-    (all_both P (output_values n q.table r) _ (output_values_listed n d f r some q.table)
-    (all_both P (levels_limited n d r) _ (levels_listed n d f r some) (fan_outs_listed n d f r some))))))
+module _ (q : Question) (r : ℕ) (some : 1 ≤ q.limits.fan_out) where
+  abbrev clauses : List NamedClause
+  clauses = clauses_of q.inputs q.table q.limits.depth q.limits.fan_out r
+
+  clauses_listed : AllByRecursion (IsListedClause (question_variables q r)) clauses
+  unfolding clauses_of
+  clauses_listed =
+      let n = q.inputs in
+      let d = q.limits.depth in
+      let f = q.limits.fan_out in
+      let P = IsListedClause (question_variables q r) in
+      all_both P (fan_ins_chosen n r) _ (fan_ins_listed n d f r some)
+      (all_both P (fan_in_values n r) _ (fan_in_values_listed n d f r some)
+      (all_both P (gate_values n r) _ (gate_values_listed n d f r some)
+      (all_both P (output_chosen n r) _ (output_listed n d f r some)
+      (all_both P (output_values n q.table r) _ (output_values_listed n d f r some q.table)
+      (all_both P (levels_limited n d r) _ (levels_listed n d f r some) (fan_outs_listed n d f r some))))))
+
+  pub variables_listed : All (All (λ (l : NamedLiteral). Contains (question_variables q r) (variable_of l))) clauses
+  variables_listed =
+      All-weaker (IsListedClause (question_variables q r)) (All (λ (l : NamedLiteral). Contains (question_variables q r) (variable_of l)))
+      (λ c. All-from_recursion (λ (l : NamedLiteral). Contains (question_variables q r) (variable_of l)) c) clauses
+      (All-from_recursion (IsListedClause (question_variables q r)) clauses clauses_listed)

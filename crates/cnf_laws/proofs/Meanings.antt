@@ -2,7 +2,6 @@
 use Rattle.std.proofs.Common.{◌≡◌, ℕ, zero, suc, ◌+◌, ◌-◌, ◌^◌, ◌<◌, ◌≤◌, max, Bool, true, false, cond, eqb, ltb, leb, List, [], ◌∷◌, ◌++◌, length, get_or, take, replicate, refl, sym, ap, subst, ◌∙◌, inl, inr, arith}
 use Rattle.std.proofs.lemmas.Bool.{eqb-true, cases_lt, le-leb, lt-leb, leb-true, lt-ltb, ltb-true}
 use Rattle.std.proofs.lemmas.List.{length-replicate}
-use Rattle.std.proofs.lemmas.List.Elements.{All-get_or, All-from_recursion}
 use Rattle.mig.specs.declared.network.Gate.{Gate}
 use Rattle.mig.specs.declared.question.Question.{Question}
 use Rattle.mig.specs.Networks.{Net, size, node, complemented, value_at, walk, bits, levels, Formed, uses}
@@ -13,13 +12,12 @@ use Rattle.mig_laws.proofs.Nodes.{level_at}
 use Rattle.cnf.specs.Variables.{Var, S, O, Q, H, K, each, uses_of, outnumber}
 use Rattle.cnf.specs.Clauses.{given, counter, counter_step, fan_ins_chosen, fan_in_values, gate_values, output_chosen, output_values, levels_limited, fan_outs_limited, clauses_of}
 use Rattle.cnf.specs.Meaning.{Assignment, Satisfies, gate_of_node, fan_in, count, said_without_counts, meaning}
-use Rattle.cnf_laws.proofs.Each.{all_both, all_each}
 use Rattle.cnf_laws.proofs.Satisfied.{satisfies_both, satisfies_each}
 use Rattle.cnf_laws.proofs.Literals.{one_met, two_met, three_met, not_both_met}
 use Rattle.cnf_laws.proofs.ExactlyOne.{exactly_one_satisfied}
 use Rattle.cnf_laws.proofs.Values.{turn, fan_in_met, gate_met, output_met}
 use Rattle.cnf_laws.proofs.Equations.{length-row_start, gate_equation, gate_below}
-use Rattle.cnf_laws.proofs.Uses.{count_more, count-take-le, SaysNames, count_uses}
+use Rattle.cnf_laws.proofs.Uses.{count_more, count-take-le, use_has, SaysNames, count_uses}
 use Rattle.cnf_laws.proofs.Groups.{clauses_from_groups}
 
 -- what holds of the three fan-ins holds of each
@@ -124,11 +122,7 @@ module _ (n r : ℕ) (net : Net) (sized : size net ≡ r) (formed : Formed n net
   -- a use of a gate is no variable K
   use_at : (j p : ℕ) → p < length (uses_of n r j) → said (get_or (uses_of n r j) p Q) ≡ said_without_counts n net (get_or (uses_of n r j) p Q)
   unfolding meaning
-  use_at j p l =
-      All-get_or (λ v. said v ≡ said_without_counts n net v) (uses_of n r j) p Q l
-      (All-from_recursion (λ v. said v ≡ said_without_counts n net v) (uses_of n r j)
-      (all_both (λ v. said v ≡ said_without_counts n net v) (each (suc j) (n + r - j) (λ i. S i 1 j ∷ S i 2 j ∷ S i 3 j ∷ [])) (O j ∷ [])
-      (all_each (λ v. said v ≡ said_without_counts n net v) (suc j) (n + r - j) (λ i. S i 1 j ∷ S i 2 j ∷ S i 3 j ∷ []) (λ i a b. (refl, (refl, (refl, tt))))) (refl, tt)))
+  use_at j = use_has (λ v. said v ≡ said_without_counts n net v) n r j (λ i c a b l u. refl) refl
 
   uses_counted : (j : ℕ) → n < j → j < suc n + r → count (said_without_counts n net) (uses_of n r j) ≡ uses j net
   unfolding said_without_counts
