@@ -16,3 +16,4 @@ pub mod Padded
 pub mod Contained
 pub mod Listed
 pub mod Numbered
+pub mod BitsReadBack

@@ -1,12 +1,12 @@
 -- Each variable of the clauses stands in the list of variables.
-use Rattle.std.proofs.Common.{◌≡◌, ℕ, zero, suc, ◌+◌, ◌-◌, ◌^◌, ◌<◌, ◌≤◌, Bool, true, false, cond, ltb, leb, List, [], ◌∷◌, ◌++◌, length, get_or, All, refl, arith}
+use Rattle.std.proofs.Common.{◌≡◌, ℕ, suc, ◌+◌, ◌-◌, ◌^◌, ◌<◌, ◌≤◌, Bool, true, false, cond, ltb, leb, List, [], length, get_or, All, refl, arith}
 use Rattle.std.specs.List.{AllByRecursion, Contains}
 use Rattle.std.proofs.lemmas.Bool.{leb-false, ltb-true}
 use Rattle.std.proofs.lemmas.List.Elements.{All-from_recursion, All-weaker}
 use Rattle.mig.specs.declared.question.Question.{Question}
 use Rattle.mig.specs.Tables.{bit_at}
-use Rattle.cnf.specs.Variables.{Var, S, N, A, B, O, Q, H, K, NamedLiteral, pos, neg, NamedClause, each, uses_of, outnumber, variables}
-use Rattle.cnf.specs.Clauses.{exactly_one, given, fan_in_given, fan_in_gate, gate_majority, output_given, output_gate, counter, counter_step, fan_ins_chosen, fan_in_values, gate_values, output_chosen, output_values, levels_limited, fan_outs_limited, clauses_of}
+use Rattle.cnf.specs.Variables.{Var, S, N, A, B, O, Q, NamedLiteral, pos, neg, NamedClause, each, uses_of, outnumber, variables}
+use Rattle.cnf.specs.Clauses.{exactly_one, given, fan_in_given, fan_in_gate, output_given, output_gate, counter, counter_step, fan_ins_chosen, fan_in_values, gate_values, output_chosen, output_values, levels_limited, fan_outs_limited, clauses_of}
 use Rattle.cnf.specs.Numbers.{question_variables}
 use Rattle.cnf_laws.proofs.Each.{all_both, all_each}
 use Rattle.cnf_laws.proofs.Uses.{use_has}

@@ -1,12 +1,12 @@
 -- What the variables say of a network of r gates satisfies the clauses of each question that the network meets.
-use Rattle.std.proofs.Common.{◌≡◌, ℕ, zero, suc, ◌+◌, ◌-◌, ◌^◌, ◌<◌, ◌≤◌, max, Bool, true, false, cond, eqb, ltb, leb, List, [], ◌∷◌, ◌++◌, length, get_or, take, replicate, refl, sym, ap, subst, ◌∙◌, inl, inr, arith}
+use Rattle.std.proofs.Common.{◌≡◌, ℕ, suc, ◌+◌, ◌-◌, ◌^◌, ◌<◌, ◌≤◌, max, Bool, true, false, cond, eqb, ltb, leb, List, [], length, get_or, take, replicate, refl, sym, ap, subst, ◌∙◌, inl, inr, arith}
 use Rattle.std.proofs.lemmas.Bool.{eqb-true, cases_lt, le-leb, lt-leb, leb-true, lt-ltb, ltb-true}
 use Rattle.std.proofs.lemmas.List.{length-replicate}
 use Rattle.mig.specs.declared.network.Gate.{Gate}
 use Rattle.mig.specs.declared.question.Question.{Question}
 use Rattle.mig.specs.Networks.{Net, size, node, complemented, value_at, walk, bits, levels, Formed, uses}
 use Rattle.mig.specs.Tables.{bit_at}
-use Rattle.mig.specs.Questions.{row_start, Computes, level, Within, Meets}
+use Rattle.mig.specs.Questions.{row_start, Computes, level, Meets}
 use Rattle.mig_laws.proofs.Walks.{walk_keeps}
 use Rattle.mig_laws.proofs.Nodes.{level_at}
 use Rattle.cnf.specs.Variables.{Var, S, O, Q, H, K, each, uses_of, outnumber}
@@ -17,7 +17,7 @@ use Rattle.cnf_laws.proofs.Literals.{one_met, two_met, three_met, not_both_met}
 use Rattle.cnf_laws.proofs.ExactlyOne.{exactly_one_satisfied}
 use Rattle.cnf_laws.proofs.Values.{turn, fan_in_met, gate_met, output_met}
 use Rattle.cnf_laws.proofs.Equations.{length-row_start, gate_equation, gate_below}
-use Rattle.cnf_laws.proofs.Uses.{count_more, count-take-le, use_has, SaysNames, count_uses}
+use Rattle.cnf_laws.proofs.Uses.{count_more, count-take-le, use_has, count_uses}
 use Rattle.cnf_laws.proofs.Groups.{clauses_from_groups}
 
 -- what holds of the three fan-ins holds of each
@@ -48,7 +48,7 @@ module _ (n r : ℕ) (net : Net) (sized : size net ≡ r) (formed : Formed n net
   unfolding meaning said_without_counts
   fan_ins_met =
       satisfies_each said (suc n) r _ (λ i a b. satisfies_each said 1 3 _ (λ c l u.
-          exactly_one_satisfied said i (S i c) (node (fan_in c (gate_of_node n net i))) (fan_in_below i c a b) (λ k. refl)))
+      exactly_one_satisfied said i (S i c) (node (fan_in c (gate_of_node n net i))) (fan_in_below i c a b) (λ k. refl)))
 
   -- a node's value: given, or by the walk
   row_at : (t j : ℕ) → get_or (row t) j false ≡ cond (leb j n) (given n t j) (get_or (row t) j false)
@@ -68,13 +68,13 @@ module _ (n r : ℕ) (net : Net) (sized : size net ≡ r) (formed : Formed n net
   unfolding meaning said_without_counts
   fan_in_bits_met =
       satisfies_each said (suc n) r _ (λ i a b. satisfies_each said 1 3 _ (λ c l u. satisfies_each said 0 i _ (λ j v w. satisfies_each said 0 (2 ^ n) _ (λ t y z.
-          fan_in_met said i c j t (leb j n) (given n t j) (code_at t j (fan_in c (gate_of_node n net i)))))))
+      fan_in_met said i c j t (leb j n) (given n t j) (code_at t j (fan_in c (gate_of_node n net i)))))))
 
   gate_bits_met : Satisfies said (gate_values n r)
   unfolding meaning said_without_counts
   gate_bits_met =
       satisfies_each said (suc n) r _ (λ i a b. satisfies_each said 0 (2 ^ n) _ (λ t y z.
-          gate_met said i t (sym (gate_equation bits n net (row_start n t) i false (length-row_start n t) formed a (omega arith)))))
+      gate_met said i t (sym (gate_equation bits n net (row_start n t) i false (length-row_start n t) formed a (omega arith)))))
 
   output_chosen_met : Satisfies said (output_chosen n r)
   unfolding meaning said_without_counts
@@ -84,7 +84,7 @@ module _ (n r : ℕ) (net : Net) (sized : size net ≡ r) (formed : Formed n net
   unfolding meaning said_without_counts
   table_met table h =
       satisfies_each said 0 (suc n + r) _ (λ j v w. satisfies_each said 0 (2 ^ n) _ (λ t y z.
-          output_met said j t (leb j n) (given n t j) (bit_at table t) (λ e. sym (code_at t j net.output e) ∙ h t (omega arith))))
+      output_met said j t (leb j n) (given n t j) (bit_at table t) (λ e. sym (code_at t j net.output e) ∙ h t (omega arith))))
 
   gate_level : (i : ℕ) → n < i → i < suc n + r
       → get_or node_levels i 0 ≡ 1 + max (get_or node_levels (node (gate_of_node n net i).first) 0) (max (get_or node_levels (node (gate_of_node n net i).second) 0) (get_or node_levels (node (gate_of_node n net i).third) 0))
@@ -113,10 +113,10 @@ module _ (n r : ℕ) (net : Net) (sized : size net ≡ r) (formed : Formed n net
   levels_met d h =
       satisfies_both said _ _
       (satisfies_each said (suc n) r _ (λ i a b. (
-          one_met (said (H i 0)) (lt-ltb 0 (get_or node_levels i 0) (omega (arith, gate_level i a b))),
-          satisfies_each said 1 3 _ (λ c l u. satisfies_each said (suc n) (i - suc n) _ (λ j v w. satisfies_each said 0 d _ (λ e y z.
-              (three_met (said (S i c j)) (said (H j e)) (said (H i (e + 1))) (fan_in_exceeds i c j e a b), tt)))),
-        )))
+        one_met (said (H i 0)) (lt-ltb 0 (get_or node_levels i 0) (omega (arith, gate_level i a b))),
+        satisfies_each said 1 3 _ (λ c l u. satisfies_each said (suc n) (i - suc n) _ (λ j v w. satisfies_each said 0 d _ (λ e y z.
+            (three_met (said (S i c j)) (said (H j e)) (said (H i (e + 1))) (fan_in_exceeds i c j e a b), tt)))),
+      )))
       (satisfies_each said (suc n) r _ (λ j a b. (not_both_met (said (O j)) (said (H j d)) (output_within d j h), tt)))
 
   -- a use of a gate is no variable K
@@ -157,16 +157,16 @@ module _ (n r : ℕ) (net : Net) (sized : size net ≡ r) (formed : Formed n net
     step_met k a l =
         satisfies_both said _ _
         (satisfies_each said 1 f _ (λ q b u. (
-            two_met (said (K j (k - 1) q)) (said (K j k q))
-                (λ e. le-leb q (held k) (omega (arith, leb-true q (held (k - 1)) e, held_no_less k a l))),
-            tt,
-          )))
+          two_met (said (K j (k - 1) q)) (said (K j k q))
+              (λ e. le-leb q (held k) (omega (arith, leb-true q (held (k - 1)) e, held_no_less k a l))),
+          tt,
+        )))
         (satisfies_both said _ _
         (satisfies_each said 1 (f - 1) _ (λ q b u. (
-            three_met (said (get_or us (k - 1) Q)) (said (K j (k - 1) q)) (said (K j k (q + 1)))
-                (λ e g. le-leb (q + 1) (held k) (omega (arith, held_more k a l e, leb-true q (held (k - 1)) g))),
-            tt,
-          )))
+          three_met (said (get_or us (k - 1) Q)) (said (K j (k - 1) q)) (said (K j k (q + 1)))
+              (λ e g. le-leb (q + 1) (held k) (omega (arith, held_more k a l e, leb-true q (held (k - 1)) g))),
+          tt,
+        )))
         (not_both_met (said (get_or us (k - 1) Q)) (said (K j (k - 1) f)) (λ e g. omega (arith, held_within k, held_more k a l e, leb-true f (held (k - 1)) g)), tt))
 
     counter_met : (k : ℕ) → 1 ≤ k → k ≤ length us → Satisfies said (counter f j (get_or us (k - 1) Q) k)

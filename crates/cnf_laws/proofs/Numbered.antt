@@ -1,5 +1,5 @@
 -- The clauses by number: what satisfies them, and the network that it tells.
-use Rattle.std.proofs.Common.{◌≡◌, ℕ, suc, ◌+◌, ◌-◌, ◌<◌, ◌≤◌, Bool, true, false, not, ◌||◌, List, [], ◌∷◌, length, map, get_or, All, refl, sym, ap, ◌∙◌, arith}
+use Rattle.std.proofs.Common.{◌≡◌, ℕ, suc, ◌+◌, ◌-◌, ◌≤◌, Bool, true, false, not, ◌||◌, List, [], ◌∷◌, length, map, get_or, All, refl, sym, ap, ◌∙◌, arith}
 use Rattle.std.specs.List.{Contains}
 use Rattle.std.proofs.lemmas.Bool.{and_from, and_parts}
 use Rattle.std.proofs.lemmas.List.{get_or_default, get_or-map, length-map}
@@ -11,7 +11,7 @@ use Rattle.cnf.specs.declared.literal.Literal.{Literal}
 use Rattle.cnf.specs.Variables.{Var, Q, NamedLiteral, pos, neg, NamedClause}
 use Rattle.cnf.specs.Clauses.{clauses_of}
 use Rattle.cnf.specs.Meaning.{Assignment, some_holds, Satisfies, padded, meaning}
-use Rattle.cnf.specs.Numbers.{Clause, numbered_literal, numbered, question_variables, question_number, question_clauses, bit_of, clause_holds, all_hold, told, read_bits, Model, SatisfiableExactlyWhenMet}
+use Rattle.cnf.specs.Numbers.{numbered_literal, numbered, question_variables, question_number, question_clauses, bit_of, clause_holds, all_hold, told, read_bits, SatisfiableExactlyWhenMet}
 use Rattle.cnf_laws.proofs.Numbering.{number_at}
 use Rattle.cnf_laws.proofs.Listed.{variable_of, variables_listed}
 use Rattle.cnf_laws.proofs.ReadBack.{length-read_gates}

@@ -1,10 +1,10 @@
 -- A padded network is well-formed and meets what the network meets.
-use Rattle.std.proofs.Common.{◌≡◌, ℕ, zero, suc, ◌+◌, ◌-◌, ◌<◌, ◌≤◌, List, [], ◌∷◌, ◌++◌, length, get_or, replicate, refl, ap, ◌∙◌, inl, inr, arith}
+use Rattle.std.proofs.Common.{◌≡◌, ℕ, zero, suc, ◌+◌, ◌-◌, ◌<◌, ◌≤◌, List, [], ◌∷◌, length, replicate, refl, ap, ◌∙◌, inl, inr, arith}
 use Rattle.std.proofs.lemmas.Bool.{cases_lt}
 use Rattle.std.proofs.lemmas.List.{length-append, length-replicate}
 use Rattle.mig.specs.declared.network.Gate.{Gate}
 use Rattle.mig.specs.declared.question.Question.{Question}
-use Rattle.mig.specs.Networks.{Net, size, Kind, node, value_at, walk, output_value, bits, levels, empty_gate, Ordered, Formed, uses_in, uses}
+use Rattle.mig.specs.Networks.{Net, size, Kind, value_at, walk, output_value, bits, levels, empty_gate, Ordered, Formed, uses_in, uses}
 use Rattle.mig.specs.Questions.{row_start, Meets}
 use Rattle.mig_laws.proofs.Walks.{walk-append, length-walk, uses_in-append, ordered_both}
 use Rattle.cnf.specs.Meaning.{padded}

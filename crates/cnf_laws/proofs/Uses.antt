@@ -43,8 +43,8 @@ use_has P n r j fan_ins output p l =
     (All-from_recursion P (uses_of n r j)
     (all_both P (each (suc j) (n + r - j) (λ i. S i 1 j ∷ S i 2 j ∷ S i 3 j ∷ [])) (O j ∷ [])
     (all_each P (suc j) (n + r - j) _ (λ i a b.
-        let at = λ (c : ℕ) (u : 1 ≤ c) (v : c < 4). fan_ins i c a (omega arith) u v in
-        (at 1 (omega arith) (omega arith), (at 2 (omega arith) (omega arith), (at 3 (omega arith) (omega arith), tt)))))
+    let at = λ (c : ℕ) (u : 1 ≤ c) (v : c < 4). fan_ins i c a (omega arith) u v in
+    (at 1 (omega arith) (omega arith), (at 2 (omega arith) (omega arith), (at 3 (omega arith) (omega arith), tt)))))
     (output, tt)))
 
 -- the variables S say which codes of gate i, which is g, name j
