@@ -1,1 +1,2 @@
 mod Takings
+mod Uses

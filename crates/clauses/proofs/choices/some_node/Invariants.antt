@@ -8,4 +8,5 @@ use Rattle.clauses.proofs.choices.some_node.Given as goal
 -- the literals of the nodes so far
 abbrev pub invariant-loop-node : goal.invariant-loop-node
 invariant-loop-node g l =
-    take l.node l.literals ≡ map (numbered_literal (numbered_by l.numbering)) (each 0 l.node (λ j. pos (variable_of l.choice j) ∷ []))
+    (length l.literals ≡ 12)
+    × (take l.node l.literals ≡ map (numbered_literal (numbered_by l.numbering)) (each 0 l.node (λ j. pos (variable_of l.choice j) ∷ [])))
