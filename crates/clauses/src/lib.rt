@@ -3,8 +3,11 @@
 
 mod choices;
 mod fan_outs;
+mod generator;
 mod levels;
 mod literals;
 mod numbering;
 mod output;
 mod values;
+
+pub use generator::{generate, variable_count};
