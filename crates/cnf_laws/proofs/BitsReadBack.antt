@@ -16,7 +16,8 @@ use Rattle.cnf_laws.proofs.Contained.{has_S, has_N, has_O, has_Q}
 use Rattle.cnf_laws.proofs.Numbered.{told_again}
 
 -- a code of a node below m, told by its node and its complement
-code_told : (m c : ℕ) (p : ℕ → Bool) (b : Bool) → node c < m → ((j : ℕ) → j < m → p j ≡ eqb (node c) j) → b ≡ complemented c → code (pick m p) b ≡ c
+code_told : (m c : ℕ) (p : ℕ → Bool) (b : Bool) → node c < m → ((j : ℕ) → j < m → p j ≡ eqb (node c) j) → b ≡ complemented c
+    → code (pick m p) b ≡ c
 code_told m c p b l h e =
     let w = pick_passes m p (node c) l (h (node c) l ∙ eq-eqb (node c) (node c) refl) in
     let k : pick m p ≡ node c = sym (eqb-true (node c) (pick m p) (sym (h (pick m p) w.0) ∙ w.1)) in
@@ -36,6 +37,7 @@ record SaysNodes (n r : ℕ) (net : Net) (s : Assignment) : Type 0 where
   output : (j : ℕ) → j < suc n + r → s (O j) ≡ eqb (node net.output) j
   complement : s Q ≡ complemented net.output
 
+-- an assignment that says the nodes of a network reads back as the network
 read_again : (n r : ℕ) (net : Net) (s : Assignment) → size net ≡ r → Formed n net → SaysNodes n r net s → read_net n r s ≡ net
 read_again n r net s e f h = same_net gates (code_told (suc n + r) net.output _ _ (omega (arith, f.output)) h.output h.complement)
   where
@@ -54,6 +56,7 @@ read_again n r net s e f h = same_net gates (code_told (suc n + r) net.output _ 
         read_gates_at s (suc n) r p (suc n + p) b refl ∙ gate (suc n + p) (omega arith) (omega arith)
         ∙ ap (λ x. get_or net.gates x empty_gate) q)
 
+-- the bits of a well-formed network of r gates read back as the network
 pub bits_read_back : (q : Question) (r : ℕ) (net : Net) → 1 ≤ q.limits.fan_out → size net ≡ r → Formed q.inputs net
     → read_bits q r (map (meaning q.inputs r net) (question_variables q r)) ≡ net
 unfolding meaning said_without_counts

@@ -86,8 +86,11 @@ module _ (n r : ℕ) (net : Net) (sized : size net ≡ r) (formed : Formed n net
       satisfies_each said 0 (suc n + r) _ (λ j v w. satisfies_each said 0 (2 ^ n) _ (λ t y z.
       output_met said j t (leb j n) (given n t j) (bit_at table t) (λ e. sym (code_at t j net.output e) ∙ h t (omega arith))))
 
+  abbrev level_of : ℕ → ℕ
+  level_of c = get_or node_levels (node c) 0
+
   gate_level : (i : ℕ) → n < i → i < suc n + r
-      → get_or node_levels i 0 ≡ 1 + max (get_or node_levels (node (gate_of_node n net i).first) 0) (max (get_or node_levels (node (gate_of_node n net i).second) 0) (get_or node_levels (node (gate_of_node n net i).third) 0))
+      → get_or node_levels i 0 ≡ 1 + max (level_of (gate_of_node n net i).first) (max (level_of (gate_of_node n net i).second) (level_of (gate_of_node n net i).third))
   gate_level i a b =
       gate_equation levels n net (replicate (n + 1) 0) i 0 (length-replicate {A = ℕ} (n + 1) 0) formed a (omega arith)
       ∙ rw (level_at node_levels (gate_of_node n net i).first, level_at node_levels (gate_of_node n net i).second, level_at node_levels (gate_of_node n net i).third) refl

@@ -57,7 +57,7 @@ numbered_have g P (c ∷ cs) h =
     (numbered_have g P cs (All-tail (All (λ l. P (numbered_literal g l))) c cs h))
 
 -- a listed variable's number is its place, from 1 on
-number_of_listed : (q : Question) (r : ℕ) (v : Var) → (h : Contains (question_variables q r) v) → question_number q r v ≡ 1 + h.0
+pub number_of_listed : (q : Question) (r : ℕ) (v : Var) → (h : Contains (question_variables q r) v) → question_number q r v ≡ 1 + h.0
 number_of_listed q r v h =
     let vs = question_variables q r in
     ap (question_number q r) (sym (get_or_default vs h.0 Q v h.1 ∙ h.2)) ∙ number_at q r h.0 h.1
@@ -70,6 +70,7 @@ told_again q r s v h =
     let k : question_number q r v - 1 ≡ h.0 = omega arith in
     ap (λ p. get_or (map s vs) p false) k ∙ get_or-map s vs h.0 v false h.1 ∙ ap s h.2
 
+-- bits that satisfy the clauses read back as a network of r gates that meets the question
 pub reads_bits : (q : Question) (r : ℕ) (bits : List Bool) → 1 ≤ q.limits.fan_out → all_hold bits (question_clauses q r) ≡ true
     → (size (read_bits q r bits) ≡ r) × Meets q (read_bits q r bits)
 reads_bits q r bits some h = (
@@ -77,6 +78,7 @@ reads_bits q r bits some h = (
   read_net_meets q r (told q r bits) some (satisfies_from_hold (question_number q r) bits _ h),
 )
 
+-- the bits of a network that meets the question, padded to r gates, satisfy the clauses
 pub writes_bits : (q : Question) (r : ℕ) (net : Net) → 1 ≤ q.limits.fan_out → size net ≤ r → Meets q net
     → all_hold (map (meaning q.inputs r (padded r net)) (question_variables q r)) (question_clauses q r) ≡ true
 writes_bits q r net some l m =

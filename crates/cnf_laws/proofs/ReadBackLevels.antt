@@ -59,7 +59,9 @@ module _ (n table d f r : ℕ) (s : Assignment) (h : SatisfiesGroups n table d f
           ] in
           let z : s (H j (e + 1)) ≡ true =
           three_says (s (S j c (picked j c))) (s (H (picked j c) e)) (s (H j (e + 1)))
-          (first_holds s _ _ (satisfies_at s 0 d _ (satisfies_at s (suc n) (j - suc n) _ (satisfies_at s 1 3 _ (satisfies_rest s _ _ (satisfies_at s (suc n) r _ (satisfies_left s _ _ h.levels) j a b)) c lc (omega arith)) (picked j c) g (omega (arith, w.below))) e (omega arith) (omega arith)))
+          (first_holds s _ _ (satisfies_at s 0 d _ (satisfies_at s (suc n) (j - suc n) _ (satisfies_at s 1 3 _
+          (satisfies_rest s _ _ (satisfies_at s (suc n) r _ (satisfies_left s _ _ h.levels) j a b))
+          c lc (omega arith)) (picked j c) g (omega (arith, w.below))) e (omega arith) (omega arith)))
           w.passes (ih (picked j c) g (omega (arith, w.below)) x) in
           rw add-one at z
 
