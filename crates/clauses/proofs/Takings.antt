@@ -1,5 +1,5 @@
 -- What a sink has taken, one part of the clauses after another.
-use Rattle.std.proofs.Common.{◌≡◌, ℕ, suc, ◌+◌, ◌-◌, ◌≤◌, List, [], ◌∷◌, ◌++◌, sym, ap, ◌∙◌, subst, arith}
+use Rattle.std.proofs.Common.{◌≡◌, ℕ, suc, ◌+◌, List, [], ◌++◌, sym, ap, ◌∙◌, subst}
 use Rattle.cnf.specs.Variables.{Var, NamedClause, each}
 use Rattle.cnf.specs.Numbers.{Clause, numbered}
 use Rattle.cnf_laws.proofs.Each.{each_push, numbered_append}

@@ -1,5 +1,5 @@
 // All clauses of a question and a number of gates, and how many variables they have.
-ghost use Rattle.std.specs.Prelude.{◌≡◌, length, tt, MatchResult};
+ghost use Rattle.std.specs.Prelude.{◌≡◌, length, MatchResult};
 ghost use Rattle.mig.specs.Rules.{unless_refused};
 ghost use Rattle.cnf.specs.Numbers.{question_variables, question_clauses};
 ghost use Rattle.cnf.specs.Rules.{clauses_refusal};

@@ -123,7 +123,9 @@ impl Numbering {
     pub fn fan_in_value(&self, gate: u8, fan_in: u8, row: u8) -> u32
         ensures { result ≡ numbered_by self.now (A gate fan_in row) }
     {
-        self.fan_in_values + self.fan_ins_before(gate, fan_in) * u32::from(self.rows) + u32::from(row)
+        self.fan_in_values
+            + self.fan_ins_before(gate, fan_in) * u32::from(self.rows)
+            + u32::from(row)
     }
 
     // The number of B(i, t): the value of gate i in row t.
@@ -155,7 +157,9 @@ impl Numbering {
     pub fn level_exceeds(&self, gate: u8, level: u8) -> u32
         ensures { result ≡ numbered_by self.now (H gate level) }
     {
-        self.levels + gates_before(self.inputs, gate) * (u32::from(self.depth) + 1) + u32::from(level)
+        self.levels
+            + gates_before(self.inputs, gate) * (u32::from(self.depth) + 1)
+            + u32::from(level)
     }
 
     // How many uses a gate can have: three by each later gate, and one by the output.

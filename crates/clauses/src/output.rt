@@ -13,7 +13,13 @@ use crate::values::given_value;
 use cnf::ClauseSink;
 
 // If the output is the constant or an input, it is complemented exactly where that node's value is not the table's.
-fn given_output<S: ClauseSink>(sink: &mut S, numbering: &Numbering, node: u8, value: bool, wanted: bool)
+fn given_output<S: ClauseSink>(
+    sink: &mut S,
+    numbering: &Numbering,
+    node: u8,
+    value: bool,
+    wanted: bool,
+)
     ensures { S.took sink.old (numbered (numbered_by numbering.now) (output_given value wanted node)) sink.new }
 {
     let is_node = numbering.output_is(node);

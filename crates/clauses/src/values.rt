@@ -20,7 +20,14 @@ pub fn given_value(inputs: u8, node: u8, row: u8) -> bool
 }
 
 // If a fan-in is the constant or an input, its value in the row is that node's, complemented or not.
-fn given_fan_in<S: ClauseSink>(sink: &mut S, numbering: &Numbering, gate: u8, fan_in: u8, node: u8, row: u8)
+fn given_fan_in<S: ClauseSink>(
+    sink: &mut S,
+    numbering: &Numbering,
+    gate: u8,
+    fan_in: u8,
+    node: u8,
+    row: u8,
+)
     requires { node ≤ numbering.now.inputs }
     ensures { S.took sink.old (numbered (numbered_by numbering.now) (fan_in_given (given numbering.now.inputs row node) gate fan_in node row)) sink.new }
 {
@@ -37,7 +44,14 @@ fn given_fan_in<S: ClauseSink>(sink: &mut S, numbering: &Numbering, gate: u8, fa
 }
 
 // If a fan-in is a gate, its value in the row is that gate's, complemented or not.
-fn gate_fan_in<S: ClauseSink>(sink: &mut S, numbering: &Numbering, gate: u8, fan_in: u8, node: u8, row: u8)
+fn gate_fan_in<S: ClauseSink>(
+    sink: &mut S,
+    numbering: &Numbering,
+    gate: u8,
+    fan_in: u8,
+    node: u8,
+    row: u8,
+)
     ensures { S.took sink.old (numbered (numbered_by numbering.now) (fan_in_gate gate fan_in node row)) sink.new }
 {
     let is_node = numbering.fan_in_is(gate, fan_in, node);
@@ -51,7 +65,14 @@ fn gate_fan_in<S: ClauseSink>(sink: &mut S, numbering: &Numbering, gate: u8, fan
 }
 
 // If a fan-in is a node, its value in the row is that node's, complemented or not.
-fn fan_in_row<S: ClauseSink>(sink: &mut S, numbering: &Numbering, gate: u8, fan_in: u8, node: u8, row: u8)
+fn fan_in_row<S: ClauseSink>(
+    sink: &mut S,
+    numbering: &Numbering,
+    gate: u8,
+    fan_in: u8,
+    node: u8,
+    row: u8,
+)
     ensures { S.took sink.old (numbered (numbered_by numbering.now)
         (cond (nat_le node numbering.now.inputs) (fan_in_given (given numbering.now.inputs row node) gate fan_in node row) (fan_in_gate gate fan_in node row))) sink.new }
 {

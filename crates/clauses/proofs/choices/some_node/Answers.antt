@@ -1,4 +1,4 @@
-use Rattle.std.proofs.Common.{rules, ◌≡◌, ℕ, zero, suc, ◌+◌, ◌<◌, List, [], ◌∷◌, ◌++◌, map, take, set, length, sym, refl, ap, ◌∙◌, arith, false, length-set}
+use Rattle.std.proofs.Common.{rules, ◌≡◌, ℕ, suc, ◌+◌, ◌<◌, List, [], ◌∷◌, ◌++◌, map, take, set, length, sym, refl, ap, ◌∙◌, arith, false, length-set}
 use Rattle.std.proofs.Math.Seq.{take-suc-set}
 use Rattle.std.proofs.lemmas.List.{map-append}
 use Rattle.cnf.specs.declared.literal.Literal.{Literal}
@@ -33,6 +33,6 @@ pub loop-node-preserved : goal.loop-node-preserved
 loop-node-preserved g c = (
   omega (arith, length-set c.loop-node.literals c.loop-node.node c.pos.result, c.loop-node.invariant.0),
   one_more (numbered_by c.args.numbering.now) (λ j. pos (variable_of c.args.choice j)) c.loop-node.literals c.loop-node.node c.pos.result
-  (omega (arith, c.loop-node.invariant.0, c.loop-node-test.true, c.requires)) c.loop-node.invariant.1
-  (c.pos.ensures ∙ ap (λ (v : ℕ). record { variable = v; negated = false }) c.variable.ensures),
+      (omega (arith, c.loop-node.invariant.0, c.loop-node-test.true, c.requires)) c.loop-node.invariant.1
+      (c.pos.ensures ∙ ap (λ (v : ℕ). record { variable = v; negated = false }) c.variable.ensures),
 )

@@ -1,5 +1,4 @@
-use Rattle.std.proofs.Common.{rules, ◌≡◌, true, false, cond, ltb, [], ◌∷◌, ◌++◌, sym, subst, arith}
-use Rattle.std.proofs.lemmas.Bool.{lt-ltb, ltb-false}
+use Rattle.std.proofs.Common.{rules, ◌≡◌, true, false, cond, ltb, [], ◌∷◌, sym, subst}
 use Rattle.cnf.specs.Variables.{K, pos, neg, NamedClause}
 use Rattle.cnf.specs.Clauses.{counter_step}
 use Rattle.cnf.specs.Numbers.{numbered}

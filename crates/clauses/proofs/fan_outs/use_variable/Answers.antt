@@ -1,4 +1,4 @@
-use Rattle.std.proofs.Common.{◌≡◌, ℕ, ◌+◌, ◌-◌, ◌<◌, ◌≤◌, length, sym, ap, ◌∙◌, arith}
+use Rattle.std.proofs.Common.{◌≡◌, ℕ, ◌+◌, ◌-◌, ◌≤◌, length, sym, ap, ◌∙◌, arith}
 use Rattle.cnf.specs.Variables.{uses_of}
 use Rattle.cnf_laws.proofs.Each.{length_uses}
 use Rattle.clauses.specs.Numbering.{numbered_by}

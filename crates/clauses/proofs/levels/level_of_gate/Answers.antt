@@ -1,5 +1,5 @@
-use Rattle.std.proofs.Common.{rules, suc, ◌+◌, ◌-◌, [], ◌∷◌}
-use Rattle.cnf.specs.Variables.{S, H, pos, neg, each, each_fan_in}
+use Rattle.std.proofs.Common.{rules, [], ◌∷◌}
+use Rattle.cnf.specs.Variables.{H, pos}
 use Rattle.cnf.specs.Numbers.{numbered}
 use Rattle.clauses.specs.Numbering.{numbered_by}
 use Rattle.clauses.proofs.Takings.{took_both}

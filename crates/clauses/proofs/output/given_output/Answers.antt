@@ -23,7 +23,7 @@ pub returns-then-value-wanted : goal.returns-then-value-wanted
 unfolding numbered
 returns-then-value-wanted g c =
     let w : g.S.ClauseSink.took c.args.sink.now
-            (numbered (numbered_by c.args.numbering.now) ((neg (O c.args.node) ∷ neg Q ∷ []) ∷ [])) c.take.new.self = search rules in
+    (numbered (numbered_by c.args.numbering.now) ((neg (O c.args.node) ∷ neg Q ∷ []) ∷ [])) c.take.new.self = search rules in
     subst (λ cs. g.S.ClauseSink.took c.args.sink.now (numbered (numbered_by c.args.numbering.now) cs) c.take.new.self)
     (sym (same c.args.value c.args.wanted c.args.node c.if-value-wanted.true)) w
 
@@ -31,6 +31,6 @@ pub returns-else-value-wanted : goal.returns-else-value-wanted
 unfolding numbered
 returns-else-value-wanted g c =
     let w : g.S.ClauseSink.took c.args.sink.now
-            (numbered (numbered_by c.args.numbering.now) ((neg (O c.args.node) ∷ pos Q ∷ []) ∷ [])) c.take-else-value-wanted.new.self = search rules in
+    (numbered (numbered_by c.args.numbering.now) ((neg (O c.args.node) ∷ pos Q ∷ []) ∷ [])) c.take-else-value-wanted.new.self = search rules in
     subst (λ cs. g.S.ClauseSink.took c.args.sink.now (numbered (numbered_by c.args.numbering.now) cs) c.take-else-value-wanted.new.self)
     (sym (other c.args.value c.args.wanted c.args.node c.if-value-wanted.false)) w

@@ -1,12 +1,8 @@
-use Rattle.std.proofs.Common.{rules, ◌≡◌, ℕ, subst, suc, ◌+◌, ◌-◌, cond, leb, [], ◌∷◌, length, refl, arith}
-use Rattle.mig.specs.Tables.{bit_at}
-use Rattle.cnf.specs.Variables.{S, H, O, K, pos, neg, NamedClause, each, each_gate, each_fan_in, each_row, uses_of, outnumber}
-use Rattle.cnf.specs.Clauses.{exactly_one, given, fan_in_given, fan_in_gate, gate_majority, output_given, output_gate, counter, counter_step}
-use Rattle.cnf.specs.Numbers.{numbered}
+use Rattle.std.proofs.Common.{cond, leb, arith}
+use Rattle.cnf.specs.Variables.{each, each_row}
+use Rattle.cnf.specs.Clauses.{given, fan_in_given, fan_in_gate}
 use Rattle.clauses.specs.Numbering.{numbered_by}
-use Rattle.clauses.specs.Choices.{variable_of}
-use Rattle.clauses.specs.Uses.{use_at}
-use Rattle.clauses.proofs.Takings.{took_none, took_part, took_both}
+use Rattle.clauses.proofs.Takings.{took_none, took_part}
 use Rattle.clauses.proofs.values.fan_ins_of_gate.Goals as goal
 
 pub loop-fan_in-init : goal.loop-fan_in-init

@@ -1,4 +1,4 @@
-use Rattle.std.proofs.Common.{rules, ◌≡◌, ℕ, [], ◌∷◌}
+use Rattle.std.proofs.Common.{rules, [], ◌∷◌}
 use Rattle.cnf.specs.Variables.{S, N, A, B, pos, neg, NamedClause}
 use Rattle.cnf.specs.Numbers.{numbered}
 use Rattle.clauses.specs.Numbering.{numbered_by}

@@ -1,4 +1,4 @@
-use Rattle.std.proofs.Common.{rules, ◌≡◌, ℕ, [], ◌∷◌}
+use Rattle.std.proofs.Common.{rules, ℕ, [], ◌∷◌}
 use Rattle.cnf.specs.Variables.{A, B, pos, neg, NamedClause}
 use Rattle.cnf.specs.Numbers.{numbered}
 use Rattle.clauses.specs.Numbering.{numbered_by}

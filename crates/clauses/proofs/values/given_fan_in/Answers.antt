@@ -1,4 +1,4 @@
-use Rattle.std.proofs.Common.{rules, ◌≡◌, ℕ, Bool, true, false, [], ◌∷◌, sym, ◌∙◌, subst}
+use Rattle.std.proofs.Common.{rules, [], ◌∷◌, sym, ◌∙◌, subst}
 use Rattle.cnf.specs.Variables.{S, N, A, pos, neg, NamedClause}
 use Rattle.cnf.specs.Clauses.{fan_in_given}
 use Rattle.cnf.specs.Numbers.{numbered}

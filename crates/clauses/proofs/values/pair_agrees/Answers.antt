@@ -1,6 +1,5 @@
 use Rattle.std.proofs.Common.{rules, true, false, [], ◌∷◌}
 use Rattle.cnf.specs.Numbers.{Clause}
-use Rattle.clauses.specs.Pairs.{pair_clauses}
 use Rattle.clauses.proofs.values.pair_agrees.Goals as goal
 
 pub returns : goal.returns

@@ -1,8 +1,8 @@
-use Rattle.std.proofs.Common.{rules, ◌≡◌, ◌≤◌, ◌<◌, ℕ, suc, ◌+◌, ◌-◌, ◌*◌, ◌%◌, ◌^◌, true, refl, ap, sym, ◌∙◌, arith, ap₂, pow_mono}
+use Rattle.std.proofs.Common.{◌≡◌, ◌≤◌, ℕ, suc, ◌+◌, ◌-◌, ◌*◌, ◌%◌, ◌^◌, true, refl, ap, ◌∙◌, arith, ap₂, pow_mono}
 use Rattle.std.proofs.Math.Nat.{mod-eq_of_lt}
 use Rattle.std.proofs.lemmas.Nat.{mul-le}
 use Rattle.mig.specs.Questions.{Valid}
-use Rattle.cnf.specs.Numbers.{total, first_N, first_A, first_B, first_O, first_H, first_K}
+use Rattle.cnf.specs.Numbers.{total, first_N}
 use Rattle.clauses.proofs.numbering.Numbering.new.Goals as goal
 
 few_rows : (n : ℕ) → n ≤ 4 → 2 ^ n ≤ 16
