@@ -1,0 +1,35 @@
+// A sink that tests whether each clause holds.
+ghost use Rattle.std.specs.Prelude.{◌≡◌, ◌&&◌};
+ghost use Rattle.std.specs.List.{list_any};
+ghost use Rattle.cnf.specs.Numbers.{literal_holds, clause_holds, all_hold};
+ghost use Rattle.cnf.specs.Rules.{bits_of_bytes};
+
+use crate::bits::bit;
+use cnf::{ClauseSink, Literal};
+
+// An assignment, and whether all clauses that were taken hold in it.
+pub struct ClauseCheck<'a> {
+    pub bytes: &'a [u8],
+    pub hold: bool,
+}
+
+// Whether a literal holds.
+fn literal_holds(bytes: &[u8], literal: Literal) -> bool
+    ensures { result ≡ literal_holds (bits_of_bytes bytes.now) literal }
+{
+    bit(bytes, literal.variable) != literal.negated
+}
+
+impl ClauseSink for ClauseCheck<'_> {
+    ghost took = { λ s clauses t. (t.bytes.now ≡ s.bytes.now) × (t.hold ≡ (s.hold && all_hold (bits_of_bytes s.bytes.now) clauses)) };
+
+    ghost took_nothing = { ? };
+
+    ghost took_more = { ? };
+
+    fn take(&mut self, clause: &[Literal]) {
+        let bytes = self.bytes;
+        let holds = clause.iter().any(|literal| literal_holds(bytes, *literal));
+        self.hold = self.hold && holds;
+    }
+}

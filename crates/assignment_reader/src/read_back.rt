@@ -1,0 +1,1 @@
+// The network that an assignment tells.
