@@ -6,10 +6,10 @@ ghost use Rattle.cnf.specs.Numbers.{bit_of};
 ghost use Rattle.cnf.specs.Rules.{bits_of_bytes};
 
 // Whether the variable with a number holds.
-pub fn bit(bytes: &[u8], variable: u32) -> bool
+pub fn bit(bytes: &[u8], variable: usize) -> bool
     ensures { result ≡ bit_of (bits_of_bytes bytes.now) variable }
 {
-    bytes.get(variable.saturating_sub(1) as usize) == Some(&1)
+    bytes.get(variable.saturating_sub(1)) == Some(&1)
 }
 
 // Whether each byte is 0 or 1.
@@ -20,14 +20,14 @@ pub fn all_bits(bytes: &[u8]) -> bool
 }
 
 // Which of `count` variables in a row holds: the last one that does, counted from 0, or 0.
+#[tactic(auto, unfolding(cnf::specs::Meaning::pick))]
 pub fn last_that_holds(bytes: &[u8], first: u32, count: u8) -> u8
-    requires { first ≤ 3000000 }
     ensures choice { result ≡ pick count (λ j. bit_of (bits_of_bytes bytes.now) (first + j)) }
     ensures bound { result ≤ count }
 {
     let mut last = 0;
     for place in 0..count {
-        if bit(bytes, first + u32::from(place)) {
+        if bit(bytes, first as usize + usize::from(place)) {
             last = place;
         }
     }

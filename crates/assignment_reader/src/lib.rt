@@ -3,6 +3,6 @@
 
 mod bits;
 mod clause_check;
+mod read_back;
 
-
-
+pub use read_back::read_assignment;
