@@ -15,7 +15,7 @@ use Rattle.clause_text.specs.Counting.{saturated, CountsOn}
 pub writes_nothing : (before : List ℕ) (place : ℕ) → Writes [] before place before place
 writes_nothing before place = record {
   written = λ _. sym (rw add-zero (take-append-drop place before));
-  moved = λ _. sym (add-zero place)
+  moved = λ _. sym (add-zero place);
 }
 
 -- bytes from a place on, in the words of the library
@@ -47,14 +47,14 @@ writes_more xs ys before middle after place between behind first second =
     let both = length-append xs ys in
     let fits : place + length (xs ++ ys) ≤ length before → place + length xs ≤ length before = λ h. omega (arith, both) in
     let room : place + length (xs ++ ys) ≤ length before → between + length ys ≤ length middle = λ h.
-        let e = ap (λ (s : List ℕ). length s) (first.written (fits h)) in
-        omega (arith, both, e, length_written place xs before (fits h), first.moved (fits h)) in
+    let e = ap (λ (s : List ℕ). length s) (first.written (fits h)) in
+    omega (arith, both, e, length_written place xs before (fits h), first.moved (fits h)) in
     record {
       written = λ h. second.written (room h)
-        ∙ ap (λ (p : ℕ). written_at p ys middle) (first.moved (fits h))
-        ∙ ap (written_at (place + length xs) ys) (first.written (fits h))
-        ∙ written_behind place xs ys before (omega (arith, fits h));
-      moved = λ h. omega (arith, both, second.moved (room h), first.moved (fits h))
+          ∙ ap (λ (p : ℕ). written_at p ys middle) (first.moved (fits h))
+          ∙ ap (written_at (place + length xs) ys) (first.written (fits h))
+          ∙ written_behind place xs ys before (omega (arith, fits h));
+      moved = λ h. omega (arith, both, second.moved (room h), first.moved (fits h));
     }
 
 -- clauses, and then more behind them

@@ -2,6 +2,7 @@
 #![tactic(auto)]
 
 mod decimal;
+mod head;
 mod length;
 mod writer;
 
