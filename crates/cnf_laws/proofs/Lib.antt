@@ -1,0 +1,17 @@
+pub mod Each
+pub mod Satisfied
+pub mod Literals
+pub mod ExactlyOne
+pub mod Values
+pub mod Codes
+pub mod Equations
+pub mod Uses
+pub mod Numbering
+pub mod Groups
+pub mod ReadBack
+pub mod ReadBackLevels
+pub mod ReadBackFanOuts
+pub mod Meanings
+pub mod Padded
+pub mod Contained
+pub mod Listed
