@@ -1,2 +1,3 @@
 mod Lists
 mod Texts
+mod Bounds

@@ -1,6 +1,5 @@
 -- The laws of what is written and what is counted: nothing, and more behind it.
-use Rattle.std.specs.Prelude.{◌≡◌, ℕ, ◌+◌, ◌-◌, ◌^◌, ◌<◌, ◌≤◌, List, [], ◌∷◌, ◌++◌, length, take, drop, min}
-use Rattle.std.specs.List.{flat_map}
+use Rattle.std.specs.Prelude.{◌≡◌, ℕ, ◌+◌, ◌^◌, ◌<◌, ◌≤◌, List, [], ◌++◌, length}
 use Rattle.std.proofs.Common.{sym, ◌∙◌, ap, subst, refl, arith, add-zero, length-append}
 use Rattle.std.proofs.Math.Seq.{paste}
 use Rattle.std.proofs.lemmas.List.{take-append-drop}
@@ -9,7 +8,7 @@ use Rattle.std.proofs.lemmas.List.Edits.{paste_all, paste-paste, length-paste}
 use Rattle.cnf.specs.Numbers.{Clause}
 use Rattle.cnf.specs.Text.{clause_text, clauses_text}
 use Rattle.clause_text.specs.Writing.{written_at, Writes}
-use Rattle.clause_text.specs.Counting.{saturated, CountsOn}
+use Rattle.clause_text.specs.Counting.{CountsOn}
 
 -- nothing written changes nothing
 pub writes_nothing : (before : List ℕ) (place : ℕ) → Writes [] before place before place

@@ -1,5 +1,5 @@
 // The first line of the text.
-ghost use Rattle.std.specs.Prelude.{◌≡◌, length};
+ghost use Rattle.std.specs.Prelude.{◌≡◌, ◌≤◌, length};
 ghost use Rattle.cnf.specs.Text.{head_text};
 ghost use Rattle.clause_text.specs.Writing.{Writes};
 
@@ -7,7 +7,8 @@ use crate::decimal::{digit_count, write_bytes, write_decimal};
 
 // How many bytes the first line has.
 pub(crate) fn head_length(variables: u32, clauses: usize) -> usize
-    ensures { result ≡ length (head_text variables clauses) }
+    ensures count { result ≡ length (head_text variables clauses) }
+    ensures bound { result ≤ 48 }
 {
     8 + digit_count(variables as u64) + digit_count(clauses as u64)
 }

@@ -1,4 +1,4 @@
-use Rattle.std.proofs.Common.{rules, cond, [], ◌∷◌, ◌++◌}
+use Rattle.std.proofs.Common.{cond, [], ◌∷◌, ◌++◌}
 use Rattle.std.specs.Fmt.{decimal}
 use Rattle.clause_text.specs.Laws.{writes_more}
 use Rattle.clause_text.proofs.writer.write_literal.Goals as goal
