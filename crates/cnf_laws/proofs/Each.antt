@@ -1,4 +1,4 @@
--- Lists and sums of one part after another, one more at the end; how many uses a gate has.
+-- Lists and sums of one part after another: one part more, what holds of each element; how many uses a gate has.
 use Rattle.std.proofs.Common.{◌≡◌, ℕ, zero, suc, ◌+◌, ◌-◌, ◌*◌, ◌<◌, ◌≤◌, List, [], ◌∷◌, ◌++◌, map, length, sym, refl, ap, ◌∙◌, arith, append_assoc, append-nil, suc-mul, mul-suc, one-mul, zero-mul}
 use Rattle.std.specs.List.{AllByRecursion}
 use Rattle.std.proofs.lemmas.List.{length-append}

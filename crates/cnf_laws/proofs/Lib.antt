@@ -15,3 +15,5 @@ pub mod Meanings
 pub mod Padded
 pub mod Contained
 pub mod Listed
+pub mod Numbered
+pub mod BitsReadBack

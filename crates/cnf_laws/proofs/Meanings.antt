@@ -1,25 +1,23 @@
 -- What the variables say of a network of r gates satisfies the clauses of each question that the network meets.
-use Rattle.std.proofs.Common.{◌≡◌, ℕ, zero, suc, ◌+◌, ◌-◌, ◌^◌, ◌<◌, ◌≤◌, max, Bool, true, false, cond, eqb, ltb, leb, List, [], ◌∷◌, ◌++◌, length, get_or, take, replicate, refl, sym, ap, subst, ◌∙◌, inl, inr, arith}
+use Rattle.std.proofs.Common.{◌≡◌, ℕ, suc, ◌+◌, ◌-◌, ◌^◌, ◌<◌, ◌≤◌, max, Bool, true, false, cond, eqb, ltb, leb, List, [], length, get_or, take, replicate, refl, sym, ap, subst, ◌∙◌, inl, inr, arith}
 use Rattle.std.proofs.lemmas.Bool.{eqb-true, cases_lt, le-leb, lt-leb, leb-true, lt-ltb, ltb-true}
 use Rattle.std.proofs.lemmas.List.{length-replicate}
-use Rattle.std.proofs.lemmas.List.Elements.{All-get_or, All-from_recursion}
 use Rattle.mig.specs.declared.network.Gate.{Gate}
 use Rattle.mig.specs.declared.question.Question.{Question}
 use Rattle.mig.specs.Networks.{Net, size, node, complemented, value_at, walk, bits, levels, Formed, uses}
 use Rattle.mig.specs.Tables.{bit_at}
-use Rattle.mig.specs.Questions.{row_start, Computes, level, Within, Meets}
+use Rattle.mig.specs.Questions.{row_start, Computes, level, Meets}
 use Rattle.mig_laws.proofs.Walks.{walk_keeps}
 use Rattle.mig_laws.proofs.Nodes.{level_at}
 use Rattle.cnf.specs.Variables.{Var, S, O, Q, H, K, each, uses_of, outnumber}
 use Rattle.cnf.specs.Clauses.{given, counter, counter_step, fan_ins_chosen, fan_in_values, gate_values, output_chosen, output_values, levels_limited, fan_outs_limited, clauses_of}
 use Rattle.cnf.specs.Meaning.{Assignment, Satisfies, gate_of_node, fan_in, count, said_without_counts, meaning}
-use Rattle.cnf_laws.proofs.Each.{all_both, all_each}
 use Rattle.cnf_laws.proofs.Satisfied.{satisfies_both, satisfies_each}
 use Rattle.cnf_laws.proofs.Literals.{one_met, two_met, three_met, not_both_met}
 use Rattle.cnf_laws.proofs.ExactlyOne.{exactly_one_satisfied}
 use Rattle.cnf_laws.proofs.Values.{turn, fan_in_met, gate_met, output_met}
 use Rattle.cnf_laws.proofs.Equations.{length-row_start, gate_equation, gate_below}
-use Rattle.cnf_laws.proofs.Uses.{count_more, count-take-le, SaysNames, count_uses}
+use Rattle.cnf_laws.proofs.Uses.{count_more, count-take-le, use_has, count_uses}
 use Rattle.cnf_laws.proofs.Groups.{clauses_from_groups}
 
 -- what holds of the three fan-ins holds of each
@@ -50,7 +48,7 @@ module _ (n r : ℕ) (net : Net) (sized : size net ≡ r) (formed : Formed n net
   unfolding meaning said_without_counts
   fan_ins_met =
       satisfies_each said (suc n) r _ (λ i a b. satisfies_each said 1 3 _ (λ c l u.
-          exactly_one_satisfied said i (S i c) (node (fan_in c (gate_of_node n net i))) (fan_in_below i c a b) (λ k. refl)))
+      exactly_one_satisfied said i (S i c) (node (fan_in c (gate_of_node n net i))) (fan_in_below i c a b) (λ k. refl)))
 
   -- a node's value: given, or by the walk
   row_at : (t j : ℕ) → get_or (row t) j false ≡ cond (leb j n) (given n t j) (get_or (row t) j false)
@@ -70,13 +68,13 @@ module _ (n r : ℕ) (net : Net) (sized : size net ≡ r) (formed : Formed n net
   unfolding meaning said_without_counts
   fan_in_bits_met =
       satisfies_each said (suc n) r _ (λ i a b. satisfies_each said 1 3 _ (λ c l u. satisfies_each said 0 i _ (λ j v w. satisfies_each said 0 (2 ^ n) _ (λ t y z.
-          fan_in_met said i c j t (leb j n) (given n t j) (code_at t j (fan_in c (gate_of_node n net i)))))))
+      fan_in_met said i c j t (leb j n) (given n t j) (code_at t j (fan_in c (gate_of_node n net i)))))))
 
   gate_bits_met : Satisfies said (gate_values n r)
   unfolding meaning said_without_counts
   gate_bits_met =
       satisfies_each said (suc n) r _ (λ i a b. satisfies_each said 0 (2 ^ n) _ (λ t y z.
-          gate_met said i t (sym (gate_equation bits n net (row_start n t) i false (length-row_start n t) formed a (omega arith)))))
+      gate_met said i t (sym (gate_equation bits n net (row_start n t) i false (length-row_start n t) formed a (omega arith)))))
 
   output_chosen_met : Satisfies said (output_chosen n r)
   unfolding meaning said_without_counts
@@ -86,10 +84,13 @@ module _ (n r : ℕ) (net : Net) (sized : size net ≡ r) (formed : Formed n net
   unfolding meaning said_without_counts
   table_met table h =
       satisfies_each said 0 (suc n + r) _ (λ j v w. satisfies_each said 0 (2 ^ n) _ (λ t y z.
-          output_met said j t (leb j n) (given n t j) (bit_at table t) (λ e. sym (code_at t j net.output e) ∙ h t (omega arith))))
+      output_met said j t (leb j n) (given n t j) (bit_at table t) (λ e. sym (code_at t j net.output e) ∙ h t (omega arith))))
+
+  abbrev level_of : ℕ → ℕ
+  level_of c = get_or node_levels (node c) 0
 
   gate_level : (i : ℕ) → n < i → i < suc n + r
-      → get_or node_levels i 0 ≡ 1 + max (get_or node_levels (node (gate_of_node n net i).first) 0) (max (get_or node_levels (node (gate_of_node n net i).second) 0) (get_or node_levels (node (gate_of_node n net i).third) 0))
+      → get_or node_levels i 0 ≡ 1 + max (level_of (gate_of_node n net i).first) (max (level_of (gate_of_node n net i).second) (level_of (gate_of_node n net i).third))
   gate_level i a b =
       gate_equation levels n net (replicate (n + 1) 0) i 0 (length-replicate {A = ℕ} (n + 1) 0) formed a (omega arith)
       ∙ rw (level_at node_levels (gate_of_node n net i).first, level_at node_levels (gate_of_node n net i).second, level_at node_levels (gate_of_node n net i).third) refl
@@ -115,20 +116,16 @@ module _ (n r : ℕ) (net : Net) (sized : size net ≡ r) (formed : Formed n net
   levels_met d h =
       satisfies_both said _ _
       (satisfies_each said (suc n) r _ (λ i a b. (
-          one_met (said (H i 0)) (lt-ltb 0 (get_or node_levels i 0) (omega (arith, gate_level i a b))),
-          satisfies_each said 1 3 _ (λ c l u. satisfies_each said (suc n) (i - suc n) _ (λ j v w. satisfies_each said 0 d _ (λ e y z.
-              (three_met (said (S i c j)) (said (H j e)) (said (H i (e + 1))) (fan_in_exceeds i c j e a b), tt)))),
-        )))
+        one_met (said (H i 0)) (lt-ltb 0 (get_or node_levels i 0) (omega (arith, gate_level i a b))),
+        satisfies_each said 1 3 _ (λ c l u. satisfies_each said (suc n) (i - suc n) _ (λ j v w. satisfies_each said 0 d _ (λ e y z.
+            (three_met (said (S i c j)) (said (H j e)) (said (H i (e + 1))) (fan_in_exceeds i c j e a b), tt)))),
+      )))
       (satisfies_each said (suc n) r _ (λ j a b. (not_both_met (said (O j)) (said (H j d)) (output_within d j h), tt)))
 
   -- a use of a gate is no variable K
   use_at : (j p : ℕ) → p < length (uses_of n r j) → said (get_or (uses_of n r j) p Q) ≡ said_without_counts n net (get_or (uses_of n r j) p Q)
   unfolding meaning
-  use_at j p l =
-      All-get_or (λ v. said v ≡ said_without_counts n net v) (uses_of n r j) p Q l
-      (All-from_recursion (λ v. said v ≡ said_without_counts n net v) (uses_of n r j)
-      (all_both (λ v. said v ≡ said_without_counts n net v) (each (suc j) (n + r - j) (λ i. S i 1 j ∷ S i 2 j ∷ S i 3 j ∷ [])) (O j ∷ [])
-      (all_each (λ v. said v ≡ said_without_counts n net v) (suc j) (n + r - j) (λ i. S i 1 j ∷ S i 2 j ∷ S i 3 j ∷ []) (λ i a b. (refl, (refl, (refl, tt))))) (refl, tt)))
+  use_at j = use_has (λ v. said v ≡ said_without_counts n net v) n r j (λ i c a b l u. refl) refl
 
   uses_counted : (j : ℕ) → n < j → j < suc n + r → count (said_without_counts n net) (uses_of n r j) ≡ uses j net
   unfolding said_without_counts
@@ -163,16 +160,16 @@ module _ (n r : ℕ) (net : Net) (sized : size net ≡ r) (formed : Formed n net
     step_met k a l =
         satisfies_both said _ _
         (satisfies_each said 1 f _ (λ q b u. (
-            two_met (said (K j (k - 1) q)) (said (K j k q))
-                (λ e. le-leb q (held k) (omega (arith, leb-true q (held (k - 1)) e, held_no_less k a l))),
-            tt,
-          )))
+          two_met (said (K j (k - 1) q)) (said (K j k q))
+              (λ e. le-leb q (held k) (omega (arith, leb-true q (held (k - 1)) e, held_no_less k a l))),
+          tt,
+        )))
         (satisfies_both said _ _
         (satisfies_each said 1 (f - 1) _ (λ q b u. (
-            three_met (said (get_or us (k - 1) Q)) (said (K j (k - 1) q)) (said (K j k (q + 1)))
-                (λ e g. le-leb (q + 1) (held k) (omega (arith, held_more k a l e, leb-true q (held (k - 1)) g))),
-            tt,
-          )))
+          three_met (said (get_or us (k - 1) Q)) (said (K j (k - 1) q)) (said (K j k (q + 1)))
+              (λ e g. le-leb (q + 1) (held k) (omega (arith, held_more k a l e, leb-true q (held (k - 1)) g))),
+          tt,
+        )))
         (not_both_met (said (get_or us (k - 1) Q)) (said (K j (k - 1) f)) (λ e g. omega (arith, held_within k, held_more k a l e, leb-true f (held (k - 1)) g)), tt))
 
     counter_met : (k : ℕ) → 1 ≤ k → k ≤ length us → Satisfies said (counter f j (get_or us (k - 1) Q) k)

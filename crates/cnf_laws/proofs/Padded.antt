@@ -1,10 +1,10 @@
 -- A padded network is well-formed and meets what the network meets.
-use Rattle.std.proofs.Common.{◌≡◌, ℕ, zero, suc, ◌+◌, ◌-◌, ◌<◌, ◌≤◌, List, [], ◌∷◌, ◌++◌, length, get_or, replicate, refl, ap, ◌∙◌, inl, inr, arith}
+use Rattle.std.proofs.Common.{◌≡◌, ℕ, zero, suc, ◌+◌, ◌-◌, ◌<◌, ◌≤◌, List, [], ◌∷◌, length, replicate, refl, ap, ◌∙◌, inl, inr, arith}
 use Rattle.std.proofs.lemmas.Bool.{cases_lt}
 use Rattle.std.proofs.lemmas.List.{length-append, length-replicate}
 use Rattle.mig.specs.declared.network.Gate.{Gate}
 use Rattle.mig.specs.declared.question.Question.{Question}
-use Rattle.mig.specs.Networks.{Net, size, Kind, node, value_at, walk, output_value, bits, levels, empty_gate, Ordered, Formed, uses_in, uses}
+use Rattle.mig.specs.Networks.{Net, size, Kind, value_at, walk, output_value, bits, levels, empty_gate, Ordered, Formed, uses_in, uses}
 use Rattle.mig.specs.Questions.{row_start, Meets}
 use Rattle.mig_laws.proofs.Walks.{walk-append, length-walk, uses_in-append, ordered_both}
 use Rattle.cnf.specs.Meaning.{padded}
@@ -40,19 +40,19 @@ unused m j (g ∷ gs) o h =
 
 pub formed_padded : (n r : ℕ) (net : Net) → Formed n net → Formed n (padded r net)
 formed_padded n r net f =
-    let idle = replicate (r - size net) empty_gate in
+    let padding = replicate (r - size net) empty_gate in
     record {
-      gates = ordered_both (n + 1) (n + 1 + size net) net.gates idle refl f.gates (empty_gates_ordered (n + 1 + size net) (r - size net) (omega arith));
-      output = omega (arith, length-append net.gates idle, f.output);
+      gates = ordered_both (n + 1) (n + 1 + size net) net.gates padding refl f.gates (empty_gates_ordered (n + 1 + size net) (r - size net) (omega arith));
+      output = omega (arith, length-append net.gates padding, f.output);
     }
 
 -- the padding leaves the value of the output
 output_padded : {V : Type 0} (k : Kind V) (vs : List V) (n r : ℕ) (net : Net) → length vs ≡ n + 1 → Formed n net
     → output_value k vs (padded r net) ≡ output_value k vs net
 output_padded k vs n r net e f =
-    let idle = replicate (r - size net) empty_gate in
-    ap (λ us. value_at k us net.output) (walk-append k vs net.gates idle)
-    ∙ value_kept k (walk k vs net.gates) idle net.output (omega (arith, length-walk k vs net.gates, f.output))
+    let padding = replicate (r - size net) empty_gate in
+    ap (λ us. value_at k us net.output) (walk-append k vs net.gates padding)
+    ∙ value_kept k (walk k vs net.gates) padding net.output (omega (arith, length-walk k vs net.gates, f.output))
 
 uses_padded : (j r : ℕ) (net : Net) → 0 < j → uses j (padded r net) ≡ uses j net
 uses_padded j r net h =

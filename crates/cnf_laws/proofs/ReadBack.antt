@@ -1,13 +1,12 @@
 -- The read-back of a satisfying assignment is well-formed and computes the table.
-use Rattle.std.proofs.Common.{◌≡◌, ℕ, zero, suc, ◌+◌, ◌-◌, ◌^◌, ◌<◌, ◌≤◌, Bool, true, false, cond, leb, List, [], ◌∷◌, length, get_or, refl, sym, ap, subst, ◌∙◌, inl, inr, arith}
+use Rattle.std.proofs.Common.{◌≡◌, ℕ, zero, suc, ◌+◌, ◌-◌, ◌^◌, ◌<◌, ◌≤◌, Bool, true, false, cond, leb, List, length, get_or, refl, sym, ap, subst, ◌∙◌, inl, inr, arith}
 use Rattle.std.proofs.lemmas.Bool.{cases_lt, le-leb, lt-leb}
-use Rattle.mig.specs.declared.network.Gate.{Gate}
-use Rattle.mig.specs.Networks.{Net, size, majority, Kind, node, value_at, gate_value, walk, bits, empty_gate, GateBelow, Ordered, Formed}
+use Rattle.mig.specs.Networks.{Kind, node, value_at, gate_value, walk, bits, empty_gate, GateBelow, Ordered, Formed}
 use Rattle.mig.specs.Tables.{bit_at}
 use Rattle.mig.specs.Questions.{row_start, Computes}
 use Rattle.mig_laws.proofs.Walks.{walk_keeps}
 use Rattle.cnf.specs.Variables.{S, N, A, B, O, Q}
-use Rattle.cnf.specs.Clauses.{given, fan_ins_chosen, fan_in_values, gate_values, output_chosen}
+use Rattle.cnf.specs.Clauses.{given, fan_ins_chosen, fan_in_values, output_chosen}
 use Rattle.cnf.specs.Meaning.{Assignment, Satisfies, pick, read_code, read_gate, read_gates, read_net, gate_of_node}
 use Rattle.cnf_laws.proofs.Satisfied.{satisfies_at}
 use Rattle.cnf_laws.proofs.ExactlyOne.{PicksOnly, picks_only}
@@ -21,7 +20,7 @@ unfolding read_gates
 length-read_gates s i zero = refl
 length-read_gates s i (suc r) = ap suc (length-read_gates s (suc i) r)
 
-read_gates_at : (s : Assignment) (i r p q : ℕ) → p < r → i + p ≡ q → get_or (read_gates s i r) p empty_gate ≡ read_gate s q
+pub read_gates_at : (s : Assignment) (i r p q : ℕ) → p < r → i + p ≡ q → get_or (read_gates s i r) p empty_gate ≡ read_gate s q
 unfolding read_gates
 read_gates_at s i zero p q l h = absurd (omega arith)
 read_gates_at s i (suc r) zero q l h = ap (read_gate s) (omega arith)

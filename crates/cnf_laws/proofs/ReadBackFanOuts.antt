@@ -1,13 +1,13 @@
 -- The fan-outs of the read-back of a satisfying assignment are within the fan-out limit, so it meets the question.
-use Rattle.std.proofs.Common.{◌≡◌, ℕ, zero, suc, ◌+◌, ◌-◌, ◌<◌, ◌≤◌, Bool, true, false, cond, eqb, ltb, ◌⊎◌, List, [], ◌∷◌, ◌++◌, length, get_or, take, refl, sym, ap, subst, ◌∙◌, inl, inr, add-one, arith}
+use Rattle.std.proofs.Common.{◌≡◌, ℕ, zero, suc, ◌+◌, ◌-◌, ◌<◌, ◌≤◌, Bool, true, false, cond, eqb, List, [], ◌∷◌, ◌++◌, length, get_or, take, refl, sym, ap, subst, ◌∙◌, inl, inr, add-one, arith}
 use Rattle.std.proofs.lemmas.Bool.{cases_lt, cases_Bool, lt-ltb, ltb-false}
 use Rattle.std.proofs.lemmas.List.{take_all}
 use Rattle.mig.specs.declared.question.Question.{Question}
-use Rattle.mig.specs.Networks.{Net, size, node, uses}
+use Rattle.mig.specs.Networks.{size, node, uses}
 use Rattle.mig.specs.Questions.{Meets}
 use Rattle.cnf.specs.Variables.{Var, S, N, O, Q, K, pos, neg, NamedClause, each, uses_of, outnumber}
 use Rattle.cnf.specs.Clauses.{counter, clauses_of}
-use Rattle.cnf.specs.Meaning.{Assignment, some_holds, Satisfies, pick, count, read_code, read_gates, read_net, gate_of_node}
+use Rattle.cnf.specs.Meaning.{Assignment, some_holds, Satisfies, pick, count, read_code, read_net, gate_of_node}
 use Rattle.cnf_laws.proofs.Satisfied.{satisfies_left, satisfies_right, satisfies_at, first_holds, satisfies_rest}
 use Rattle.cnf_laws.proofs.Literals.{two_says, three_says, not_both_says}
 use Rattle.cnf_laws.proofs.Codes.{node-code}
@@ -46,8 +46,8 @@ module _ (f j : ℕ) (s : Assignment) (us : List Var) (some : 1 ≤ f)
   rises : (p q : ℕ) → 1 ≤ p → p < length us → 1 ≤ q → q < f → s (get_or us p Q) ≡ true → s (K j p q) ≡ true → s (K j (suc p) (suc q)) ≡ true
   rises p q a l b u x y =
       let z =
-          three_says (s (get_or us p Q)) (s (K j p q)) (s (K j (suc p) (q + 1)))
-          (first_holds s _ _ (satisfies_at s 1 (f - 1) _ (satisfies_left s _ _ (satisfies_right s _ _ (step_satisfied p a l))) q b (omega arith))) x y in
+      three_says (s (get_or us p Q)) (s (K j p q)) (s (K j (suc p) (q + 1)))
+      (first_holds s _ _ (satisfies_at s 1 (f - 1) _ (satisfies_left s _ _ (satisfies_right s _ _ (step_satisfied p a l))) q b (omega arith))) x y in
       rw add-one at z
 
   stops : (p : ℕ) → 1 ≤ p → p < length us → s (get_or us p Q) ≡ true → s (K j p f) ≡ true → ⊥

@@ -2,12 +2,12 @@
 use Rattle.std.proofs.Common.{◌≡◌, ℕ, zero, suc, ◌+◌, ◌-◌, ◌<◌, ◌≤◌, max, Bool, true, List, get_or, replicate, refl, ap, ◌∙◌, inl, inr, add-one, arith}
 use Rattle.std.proofs.lemmas.Bool.{cases_lt}
 use Rattle.std.proofs.lemmas.List.{length-replicate, get_or-replicate}
-use Rattle.mig.specs.Networks.{Net, value_at, walk, levels, Formed}
+use Rattle.mig.specs.Networks.{value_at, walk, levels}
 use Rattle.mig.specs.Questions.{level}
 use Rattle.mig_laws.proofs.Walks.{walk_keeps}
 use Rattle.mig_laws.proofs.Nodes.{level_at}
 use Rattle.cnf.specs.Variables.{S, N, O, Q, H}
-use Rattle.cnf.specs.Meaning.{Assignment, Satisfies, pick, code, read_code, read_gates, read_net}
+use Rattle.cnf.specs.Meaning.{Assignment, pick, code, read_gates, read_net}
 use Rattle.cnf_laws.proofs.Satisfied.{satisfies_left, satisfies_right, satisfies_at, first_holds, satisfies_rest}
 use Rattle.cnf_laws.proofs.Literals.{one_says, three_says, not_both_says}
 use Rattle.cnf_laws.proofs.Codes.{node-code}
@@ -53,14 +53,16 @@ module _ (n table d f r : ℕ) (s : Assignment) (h : SatisfiesGroups n table d f
       step c lc uc x ih =
           let w = fan_in_picked n r s h.fan_ins j c a b lc uc in
           let g : n < picked j c =
-              elim (cases_lt n (picked j c)) [
-                | inl y ↦ y
-                | inr y ↦ absurd (omega (arith, input_level (picked j c) y))
-              ] in
+          elim (cases_lt n (picked j c)) [
+            | inl y ↦ y
+            | inr y ↦ absurd (omega (arith, input_level (picked j c) y))
+          ] in
           let z : s (H j (e + 1)) ≡ true =
-              three_says (s (S j c (picked j c))) (s (H (picked j c) e)) (s (H j (e + 1)))
-              (first_holds s _ _ (satisfies_at s 0 d _ (satisfies_at s (suc n) (j - suc n) _ (satisfies_at s 1 3 _ (satisfies_rest s _ _ (satisfies_at s (suc n) r _ (satisfies_left s _ _ h.levels) j a b)) c lc (omega arith)) (picked j c) g (omega (arith, w.below))) e (omega arith) (omega arith)))
-              w.passes (ih (picked j c) g (omega (arith, w.below)) x) in
+          three_says (s (S j c (picked j c))) (s (H (picked j c) e)) (s (H j (e + 1)))
+          (first_holds s _ _ (satisfies_at s 0 d _ (satisfies_at s (suc n) (j - suc n) _ (satisfies_at s 1 3 _
+          (satisfies_rest s _ _ (satisfies_at s (suc n) r _ (satisfies_left s _ _ h.levels) j a b))
+          c lc (omega arith)) (picked j c) g (omega (arith, w.below))) e (omega arith) (omega arith)))
+          w.passes (ih (picked j c) g (omega (arith, w.below)) x) in
           rw add-one at z
 
   abbrev out : ℕ

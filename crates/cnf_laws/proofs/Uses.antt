@@ -1,10 +1,12 @@
 -- Counting the uses of a gate by the variables that say them.
 use Rattle.std.proofs.Common.{◌≡◌, ℕ, zero, suc, ◌+◌, ◌-◌, ◌<◌, ◌≤◌, Bool, true, false, cond, eqb, List, [], ◌∷◌, ◌++◌, length, get_or, take, refl, ap, ◌∙◌, subst, inl, inr, arith}
+use Rattle.std.proofs.lemmas.List.Elements.{All-get_or, All-from_recursion}
 use Rattle.std.proofs.lemmas.Bool.{ne_eqb, cases_lt}
 use Rattle.mig.specs.declared.network.Gate.{Gate}
 use Rattle.mig.specs.Networks.{Net, size, node, names, uses_in, uses, empty_gate, Ordered, Formed}
 use Rattle.cnf.specs.Variables.{Var, S, O, Q, each, uses_of}
 use Rattle.cnf.specs.Meaning.{Assignment, count, gate_of_node}
+use Rattle.cnf_laws.proofs.Each.{all_both, all_each}
 
 pub count-append : (s : Assignment) (xs ys : List Var) → count s (xs ++ ys) ≡ count s xs + count s ys
 unfolding count
@@ -32,6 +34,18 @@ count-le-length s (v ∷ vs) = omega (arith, count-le-length s vs, one_at_most (
     one_at_most : (b : Bool) → cond b 1 0 ≤ 1
     one_at_most true = omega arith
     one_at_most false = omega arith
+
+-- what holds of each variable S that says j, and of the output's, holds of each use of j
+pub use_has : (P : Var → Type 0) (n r j : ℕ) → ((i c : ℕ) → j < i → i < suc n + r → 1 ≤ c → c < 4 → P (S i c j)) → P (O j)
+    → (p : ℕ) → p < length (uses_of n r j) → P (get_or (uses_of n r j) p Q)
+use_has P n r j fan_ins output p l =
+    All-get_or P (uses_of n r j) p Q l
+    (All-from_recursion P (uses_of n r j)
+    (all_both P (each (suc j) (n + r - j) (λ i. S i 1 j ∷ S i 2 j ∷ S i 3 j ∷ [])) (O j ∷ [])
+    (all_each P (suc j) (n + r - j) _ (λ i a b.
+    let at = λ (c : ℕ) (u : 1 ≤ c) (v : c < 4). fan_ins i c a (omega arith) u v in
+    (at 1 (omega arith) (omega arith), (at 2 (omega arith) (omega arith), (at 3 (omega arith) (omega arith), tt)))))
+    (output, tt)))
 
 -- the variables S say which codes of gate i, which is g, name j
 pub record SaysNames (s : Assignment) (j i : ℕ) (g : Gate) : Type 0 where
