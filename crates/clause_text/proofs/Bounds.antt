@@ -5,6 +5,7 @@ use Rattle.std.proofs.Math.Nat.{mul-le-mul_right, pow-le-pow_right}
 use Rattle.std.proofs.lemmas.List.Concat.{flat_map-append}
 use Rattle.std.proofs.lemmas.Bool.{and_parts, leb-true}
 use Rattle.mig.specs.Tables.{bit_at}
+use Rattle.mig.specs.Questions.{Valid}
 use Rattle.mig.specs.Rules.{refuse_if, question_refusal}
 use Rattle.mig.specs.declared.refusal.Refusal.TheVariants.{GatesAboveReach}
 use Rattle.mig_laws.proofs.Decisions.{decides_leb}
@@ -240,12 +241,18 @@ head_bytes v m =
     let ends = length-append (decimal m) (10 ∷ []) in
     omega (arith, length-append (decimal v) (32 ∷ (decimal m ++ (10 ∷ []))), decimal_short v, decimal_short m)
 
+-- where the question is not refused, it is within bounds
+pub within_bounds : (q : Question) (r : ℕ) → clauses_refusal q r ≡ None → Valid q × (r ≤ 7)
+within_bounds q r none =
+    let seven = passes_if (ltb 7 r) GatesAboveReach (decides_leb r 7) in
+    (passes_both (question_refusal q) (refuse_if (ltb 7 r) GatesAboveReach) (question-passes q) seven).0 (ap passes none)
+
 -- the text of a question that is not refused has at most so many bytes
 pub text_short : (q : Question) (r : ℕ) → clauses_refusal q r ≡ None → length (question_text q r) ≤ 11000000
 text_short q r none =
     let v = length (question_variables q r) in
     let m = length (question_clauses q r) in
-    let (valid, gates) = (passes_both (question_refusal q) (refuse_if (ltb 7 r) GatesAboveReach) (question-passes q) (passes_if (ltb 7 r) GatesAboveReach (decides_leb r 7))).0 (ap passes none) in
+    let (valid, gates) = within_bounds q r none in
     omega (
       arith,
       length-append (head_text v m) (clauses_text (question_clauses q r)),
