@@ -11,6 +11,7 @@ use Rattle.filing.specs.declared.key.Key.{Key}
 use Rattle.filing.specs.Filing.{key_of, Keepable}
 use Rattle.entry.specs.Held.{held, gates_of, Sound}
 use Rattle.entry.specs.declared.entry.Entry.{Entry}
+use Rattle.settling.proofs.Bounds.{entry_sound}
 use Rattle.collection_laws.specs.declared.answer.Answer.TheVariants.{Known}
 use Rattle.collection_laws.specs.Calls.{AnswersOrder, AnswersLookUp}
 use Rattle.collection_laws.proofs.Questions.{given_out}
@@ -49,4 +50,4 @@ upper_given q before after (Some network) few keepable carried =
 
 -- what an entry keeps is right
 pub sound_entry : (e : Entry) (k : Key) → e.key ≡ k → Sound k (held e)
-sound_entry e k same = subst (λ x. Sound x (held e)) same (record { lower_bound = e.lower_bound; keepable = e.keepable })
+sound_entry e k same = subst (λ x. Sound x (held e)) same (entry_sound e)

@@ -40,11 +40,4 @@ impl<S> Collection<S> {
     {
         self.entries.rows()
     }
-
-    // The search: its reach, its need and its count can be read.
-    pub fn search(&self) -> &S
-        ensures { result.now ≡ self.now.search }
-    {
-        &self.search
-    }
 }

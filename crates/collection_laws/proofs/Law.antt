@@ -22,7 +22,7 @@ use Rattle.collection_laws.specs.declared.call.Call.{Call}
 use Rattle.collection_laws.specs.declared.call.Call.TheVariants as calls
 use Rattle.collection_laws.specs.Calls.{Setting, State, network_given, AnswersOrder, Orders, deposits_refusal, Deposits, AnswersLookUp}
 use Rattle.collection_laws.specs.Loads.{is_passed_over, LoadsRefused, LoadsRecord, LoadsPart, LoadsFrom}
-use Rattle.collection_laws.specs.Runs.{Reply, Step, Run, lent, History}
+use Rattle.collection_laws.specs.Runs.{Reply, Step, Chain, Run, lent, StepLent, History}
 use Rattle.collection_laws.specs.Law.{RightOrder, RightLookUp, Right, AllRight, SoundTable}
 use Rattle.collection_laws.proofs.Tables.{sound_put, sound_struck, sound_kept}
 use Rattle.collection_laws.proofs.Questions.{bound_of_question, none_of_question, given_out}
@@ -133,38 +133,41 @@ step_right s b (calls.Load bytes) (Err e) a all (l, t, loads, is, leaves) =
 step_right s b calls.Export (Ok answer) a all (none, (is, leaves)) = (tt, subst (λ (x : State). SoundTable x.table) (sym leaves) all)
 step_right s b calls.Export (Err e) a all (some, same) = (tt, subst (λ (x : State). SoundTable x.table) (sym same) all)
 
--- a run and another one behind it are a run
-pub runs_compose : (s : Setting) (b m a : State) (cs ds : List Call) (rs us : List Reply) → Run s b cs rs m → Run s m ds us a → Run s b (cs ++ ds) (rs ++ us) a
-unfolding Run
-runs_compose s b m a [] ds [] us same run = subst (λ x. Run s x ds us a) same run
-runs_compose s b m a [] ds (r ∷ rs) us first run = absurd first
-runs_compose s b m a (c ∷ cs) ds [] us first run = absurd first
-runs_compose s b m a (c ∷ cs) ds (r ∷ rs) us (n, step, first) run = (n, step, runs_compose s n m a cs ds rs us first run)
+-- a chain and another one behind it are a chain
+pub chains_compose : (One : State → Call → Reply → State → Type 0) (b m a : State) (cs ds : List Call) (rs us : List Reply) → Chain One b cs rs m → Chain One m ds us a
+    → Chain One b (cs ++ ds) (rs ++ us) a
+unfolding Chain
+chains_compose One b m a [] ds [] us same later = subst (λ x. Chain One x ds us a) same later
+chains_compose One b m a [] ds (r ∷ rs) us first later = absurd first
+chains_compose One b m a (c ∷ cs) ds [] us first later = absurd first
+chains_compose One b m a (c ∷ cs) ds (r ∷ rs) us (n, one, first) later = (n, one, chains_compose One n m a cs ds rs us first later)
+
+-- a chain of calls by one rule is a chain by a weaker rule
+chain_weakens : (One Weaker : State → Call → Reply → State → Type 0) → ((b : State) (c : Call) (r : Reply) (a : State) → One b c r a → Weaker b c r a)
+    → (b : State) (cs : List Call) (rs : List Reply) (a : State) → Chain One b cs rs a → Chain Weaker b cs rs a
+unfolding Chain
+chain_weakens One Weaker weaken b [] [] a same = same
+chain_weakens One Weaker weaken b [] (r ∷ rs) a chain = absurd chain
+chain_weakens One Weaker weaken b (c ∷ cs) [] a chain = absurd chain
+chain_weakens One Weaker weaken b (c ∷ cs) (r ∷ rs) a (m, one, chain) = (m, weaken b c r m one, chain_weakens One Weaker weaken m cs rs a chain)
 
 -- a run is a history, with the same number of work words at each call
 pub run_is_history : (reach need words : ℕ) (b : State) (cs : List Call) (rs : List Reply) (a : State) → Run (lent reach need words) b cs rs a → History reach need b cs rs a
-unfolding Run History
-run_is_history reach need words b [] [] a same = same
-run_is_history reach need words b [] (r ∷ rs) a run = absurd run
-run_is_history reach need words b (c ∷ cs) [] a run = absurd run
-run_is_history reach need words b (c ∷ cs) (r ∷ rs) a (m, step, run) = (words, m, step, run_is_history reach need words m cs rs a run)
+run_is_history reach need words = chain_weakens (Step (lent reach need words)) (StepLent reach need) (λ b c r a step. (words, step))
 
--- a history and another one behind it are a history
-pub histories_compose : (reach need : ℕ) (b m a : State) (cs ds : List Call) (rs us : List Reply) → History reach need b cs rs m → History reach need m ds us a
-    → History reach need b (cs ++ ds) (rs ++ us) a
-unfolding History
-histories_compose reach need b m a [] ds [] us same later = subst (λ x. History reach need x ds us a) same later
-histories_compose reach need b m a [] ds (r ∷ rs) us first later = absurd first
-histories_compose reach need b m a (c ∷ cs) ds [] us first later = absurd first
-histories_compose reach need b m a (c ∷ cs) ds (r ∷ rs) us (words, n, step, first) later = (words, n, step, histories_compose reach need n m a cs ds rs us first later)
+-- every reply of a chain is right, and what is then kept, where one call's are
+chain_right : (One : State → Call → Reply → State → Type 0)
+    → ((b : State) (c : Call) (r : Reply) (a : State) → SoundTable b.table → One b c r a → Right c r × SoundTable a.table)
+    → (b : State) (cs : List Call) (rs : List Reply) (a : State) → SoundTable b.table → Chain One b cs rs a → AllRight cs rs × SoundTable a.table
+unfolding Chain AllRight
+chain_right One one_right b [] [] a all same = (tt, subst (λ (x : State). SoundTable x.table) (sym same) all)
+chain_right One one_right b [] (r ∷ rs) a all chain = absurd chain
+chain_right One one_right b (c ∷ cs) [] a all chain = absurd chain
+chain_right One one_right b (c ∷ cs) (r ∷ rs) a all (m, one, chain) =
+    let (right, there) = one_right b c r m all one in
+    let (rest, end) = chain_right One one_right m cs rs a there chain in
+    ((right, rest), end)
 
 -- every call of a history
 pub history_right : (reach need : ℕ) (b : State) (cs : List Call) (rs : List Reply) (a : State) → SoundTable b.table → History reach need b cs rs a → AllRight cs rs × SoundTable a.table
-unfolding History AllRight
-history_right reach need b [] [] a all same = (tt, subst (λ (x : State). SoundTable x.table) (sym same) all)
-history_right reach need b [] (r ∷ rs) a all history = absurd history
-history_right reach need b (c ∷ cs) [] a all history = absurd history
-history_right reach need b (c ∷ cs) (r ∷ rs) a all (words, m, step, history) =
-    let (right, there) = step_right (lent reach need words) b c r m all step in
-    let (rest, end) = history_right reach need m cs rs a there history in
-    ((right, rest), end)
+history_right reach need = chain_right (StepLent reach need) (λ b c r a all step. step_right (lent reach need step.0) b c r a all step.1)

@@ -1,21 +1,14 @@
 -- Tables in which what is kept of every key is right.
-use Rattle.std.proofs.Common.{◌≡◌, ℕ, cond, [], ◌∷◌, Some, refl, ap, sym, subst, arith}
+use Rattle.std.proofs.Common.{◌≡◌, cond, [], ◌∷◌, Some, refl, sym, subst, arith}
 use Rattle.std.specs.declared.cmp.Ordering.{Ordering}
 use Rattle.std.specs.declared.cmp.Ordering.TheVariants.{Less, Equal, Greater}
-use Rattle.std.specs.Ordering.{match_ordering, is_eq, nat_cmp, ordering_then}
-use Rattle.std.proofs.lemmas.Map.Lookups.{CmpEqualImpliesEq, exact_pairs, exact_unsigned}
+use Rattle.std.specs.Ordering.{match_ordering, is_eq}
 use Rattle.filing.specs.declared.key.Key.{Key}
 use Rattle.filing.specs.Filing.{key_cmp}
 use Rattle.entry.specs.Held.{Held, nothing, Sound}
 use Rattle.entries.specs.Table.{Table, kept, held_or, kept_or_new, put, struck}
+use Rattle.entries.proofs.Keys.{exact_keys}
 use Rattle.collection_laws.specs.Law.{SoundTable}
-
--- keys that compare alike are one
-key_exact : CmpEqualImpliesEq key_cmp
-key_exact a b h =
-    ap (λ (p : ℕ × (ℕ × ℕ)). record { table = p.0; limits = record { depth = p.1.0; fan_out = p.1.1 } })
-    (exact_pairs nat_cmp (λ (x y : ℕ × ℕ). ordering_then (nat_cmp x.0 y.0) (nat_cmp x.1 y.1)) exact_unsigned (exact_pairs nat_cmp nat_cmp exact_unsigned exact_unsigned)
-    (a.table, (a.limits.depth, a.limits.fan_out)) (b.table, (b.limits.depth, b.limits.fan_out)) h)
 
 -- what is put of a key is right
 pub sound_put : (t : Table) (k : Key) (h : Held) → SoundTable t → Sound k h → SoundTable (put t k h)
@@ -24,7 +17,7 @@ sound_put (e ∷ es) k h all sound = at (sound_put es k h all.1 sound) (key_cmp 
   where
     at : SoundTable (put es k h) → (o : Ordering) → key_cmp k e.0 ≡ o → SoundTable (match_ordering o ((k, h) ∷ e ∷ es) ((e.0, h) ∷ es) (e ∷ put es k h))
     at rest Less p = (sound, all)
-    at rest Equal p = (subst (λ x. Sound x h) (key_exact k e.0 p) sound, all.1)
+    at rest Equal p = (subst (λ x. Sound x h) (exact_keys k e.0 p) sound, all.1)
     at rest Greater p = (all.0, rest)
 
 -- what is left is right
@@ -48,5 +41,5 @@ sound_kept (e ∷ es) k all = at (sound_kept es k all.1) (key_cmp k e.0) refl
   where
     at : Sound k (kept_or_new es k) → (o : Ordering) → key_cmp k e.0 ≡ o → Sound k (held_or (cond (is_eq o) (Some e.1) (kept es k)))
     at rest Less p = rest
-    at rest Equal p = subst (λ x. Sound x e.1) (sym (key_exact k e.0 p)) all.0
+    at rest Equal p = subst (λ x. Sound x e.1) (sym (exact_keys k e.0 p)) all.0
     at rest Greater p = rest

@@ -44,21 +44,25 @@ Step s b calls.Export reply a =
     (λ answer after. (answer ≡ answers.Exported (length (export_bytes b.table)))
     × (after ≡ record { count = b.count; table = b.table; buffer = written (export_bytes b.table) b.buffer })) b reply a
 
--- a run: calls one after another, their replies, and the state that they lead to
-unfoldable pub Run : Setting → State → List Call → List Reply → State → Type 0
-Run s b [] [] a = a ≡ b
-Run s b [] (r ∷ rs) a = ⊥
-Run s b (c ∷ cs) [] a = ⊥
-Run s b (c ∷ cs) (r ∷ rs) a = (m : State) × Step s b c r m × Run s m cs rs a
+-- one call after another, each with its reply, from the state b to the state a; One says what a call does
+unfoldable pub Chain : (State → Call → Reply → State → Type 0) → State → List Call → List Reply → State → Type 0
+Chain One b [] [] a = a ≡ b
+Chain One b [] (r ∷ rs) a = ⊥
+Chain One b (c ∷ cs) [] a = ⊥
+Chain One b (c ∷ cs) (r ∷ rs) a = (m : State) × One b c r m × Chain One m cs rs a
+
+-- a run: calls one after another, each by its rule
+abbrev pub Run : Setting → State → List Call → List Reply → State → Type 0
+Run s = Chain (Step s)
 
 -- a search with a reach and a need, where so many work words are lent
 abbrev pub lent : ℕ → ℕ → ℕ → Setting
 lent reach need words = record { reach = reach; need = need; words = words }
 
--- A history of a collection over a search with a reach and a need: calls one after another, their replies, and the state that they lead
--- to, where each call may have been lent another number of work words.
-unfoldable pub History : ℕ → ℕ → State → List Call → List Reply → State → Type 0
-History reach need b [] [] a = a ≡ b
-History reach need b [] (r ∷ rs) a = ⊥
-History reach need b (c ∷ cs) [] a = ⊥
-History reach need b (c ∷ cs) (r ∷ rs) a = (words : ℕ) × (m : State) × Step (lent reach need words) b c r m × History reach need m cs rs a
+-- one call of a collection over a search with a reach and a need, where some number of work words is lent
+abbrev pub StepLent : ℕ → ℕ → State → Call → Reply → State → Type 0
+StepLent reach need b c r a = (words : ℕ) × Step (lent reach need words) b c r a
+
+-- a history: calls one after another, where each may have been lent another number of work words
+abbrev pub History : ℕ → ℕ → State → List Call → List Reply → State → Type 0
+History reach need = Chain (StepLent reach need)

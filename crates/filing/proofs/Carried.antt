@@ -2,8 +2,8 @@
 use Rattle.std.proofs.Common.{◌≡◌, ℕ, ◌%◌, ◌^◌, ◌<◌, ◌≤◌, cond, sym, ap, ◌∙◌, subst, arith}
 use Rattle.mig.specs.declared.question.Question.{Question}
 use Rattle.mig.specs.declared.network.Network.{Network}
-use Rattle.mig.specs.Networks.{Net, net_of, network_of, size, Formed}
-use Rattle.mig.specs.Normal.{Normal}
+use Rattle.mig.specs.Networks.{Net, network_of, size, Formed}
+use Rattle.mig.specs.Normal.{Normal, normalised}
 use Rattle.mig.specs.Tables.{bit_at}
 use Rattle.mig.specs.Questions.{question_of, Meets}
 use Rattle.mig_laws.proofs.Tables.{table_below}
@@ -11,11 +11,12 @@ use Rattle.mig_laws.proofs.Turning.{normalised_meets, normalised_normal, normali
 use Rattle.mig_laws.proofs.Places.{net_of-network_of}
 use Rattle.class_laws.specs.Lifting.{raised_code, raise_net, cut_net}
 use Rattle.class_laws.specs.Ways.{Way, IsWay, inverse, carry_table, carried_code, carry_net, Representative}
-use Rattle.class_laws.proofs.Lifted.{raising, cutting, raised_same_gates, cut_same_gates}
+use Rattle.class_laws.proofs.Lifted.{raising, cutting, cut_same_gates}
 use Rattle.class_laws.proofs.Renamed.{size-rename}
 use Rattle.class_laws.proofs.Carried.{carrying, returning, carried_same_gates}
 use Rattle.class_laws.proofs.Classes.{one_representative, least_represents}
-use Rattle.filing.specs.Filing.{lifted_table, class_of, key_of, class_question, Keepable, LeadsToClass, kept_by, given_by}
+use Rattle.filing.specs.declared.key.Key.{Key}
+use Rattle.filing.specs.Filing.{key_question, lifted_table, class_of, key_of, class_question, Keepable, LeadsToClass, kept_by, given_by}
 
 lifted_below : (q : Question) → lifted_table q < 2 ^ 16
 lifted_below q = table_below 16 0 (λ t. bit_at q.table (t % (2 ^ q.inputs)))
@@ -32,13 +33,23 @@ leads q w h r =
       reaches = one_representative (lifted_table q) (carry_table w (lifted_table q)) (class_of q) r (least_represents (lifted_table q));
     }
 
--- what meets the question meets that of the class, as it is kept
-pub kept_meets : (q : Question) (w : Way) (net : Net) → q.inputs ≤ 4 → LeadsToClass q w → Meets q net → Meets (class_question q) (kept_by w q net)
-kept_meets q w net few l h =
+-- a network that meets the key's question may be kept under the key, normalised
+pub keepable_normalised : (k : Key) (net : Net) → Meets (key_question k) net → size net ≤ 7 → Keepable k (network_of (normalised 4 net))
+keepable_normalised k net m few =
+    let back = net_of-network_of (normalised 4 net) in
+    record {
+      meets = subst (Meets (key_question k)) (sym back) (normalised_meets (key_question k) net m);
+      normal = subst Normal (sym back) (normalised_normal 4 net m.formed);
+      few = omega (arith, (normalised_shape 4 net m.formed).gates);
+      cleared = ap network_of (sym back);
+    }
+
+-- what meets the question meets that of the class, carried
+carried_meets : (q : Question) (w : Way) (net : Net) → q.inputs ≤ 4 → LeadsToClass q w → Meets q net → Meets (class_question q) (carry_net w (raise_net 4 q.inputs net))
+carried_meets q w net few l h =
     let raised = raising 4 q.inputs q.table q.limits net few h in
-    let carried = carrying w (lifted_table q) q.limits (raise_net 4 q.inputs net) l.is_way raised in
-    normalised_meets (class_question q) (carry_net w (raise_net 4 q.inputs net))
-    (subst (λ (g : ℕ). Meets (question_of 4 g q.limits) (carry_net w (raise_net 4 q.inputs net))) l.reaches carried)
+    subst (λ (g : ℕ). Meets (question_of 4 g q.limits) (carry_net w (raise_net 4 q.inputs net))) l.reaches
+    (carrying w (lifted_table q) q.limits (raise_net 4 q.inputs net) l.is_way raised)
 
 -- what meets the question of the class meets the question, as it is given out
 pub given_meets : (q : Question) (w : Way) (net : Net) → q.inputs ≤ 4 → LeadsToClass q w → Meets (class_question q) net → Meets q (given_by w q net)
@@ -53,18 +64,10 @@ given_meets q w net few l h =
 pub kept_keepable : (q : Question) (w : Way) (net : Net) (place : Network) → q.inputs ≤ 4 → size net ≤ 7 → LeadsToClass q w → Meets q net
     → place ≡ network_of (kept_by w q net) → Keepable (key_of q) place
 kept_keepable q w net place few small l h e =
-    let there = carried_same_gates w (raise_net 4 q.inputs net) l.is_way (raised_same_gates 4 q.inputs net few h.formed).formed in
-    let back : net_of place ≡ kept_by w q net = ap net_of e ∙ net_of-network_of (kept_by w q net) in
-    let shape = normalised_shape 4 (carry_net w (raise_net 4 q.inputs net)) there.formed in
     let same = size-rename (carried_code w.order w.mask) (cond w.flipped 1 0) (raise_net 4 q.inputs net) in
     let raised = size-rename (raised_code 4 q.inputs) 0 net in
-    let count : place.count ≡ size (kept_by w q net) = ap (λ (x : Network). x.count) e in
-    record {
-      meets = subst (Meets (class_question q)) (sym back) (kept_meets q w net few l h);
-      normal = subst Normal (sym back) (normalised_normal 4 (carry_net w (raise_net 4 q.inputs net)) there.formed);
-      few = omega (arith, shape.gates, same, raised, count, small);
-      cleared = e ∙ ap network_of (sym back);
-    }
+    subst (Keepable (key_of q)) (sym e)
+    (keepable_normalised (key_of q) (carry_net w (raise_net 4 q.inputs net)) (carried_meets q w net few l h) (omega (arith, same, raised, small)))
 
 -- a network keeps its number of gates where it is given out
 pub given_size : (q : Question) (w : Way) (net : Net) → q.inputs ≤ 4 → LeadsToClass q w → Formed 4 net → size (given_by w q net) ≡ size net

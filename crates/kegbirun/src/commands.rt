@@ -1,6 +1,6 @@
 // The commands: how they are read, and how they are answered.
 use crate::answers::Answer;
-use crate::session::{Session, asked};
+use crate::interpreter::{Interpreter, asked};
 use crate::words::{Unreadable, next};
 use classes::representative;
 use collection_laws::{Call, Opening};
@@ -121,11 +121,11 @@ impl<'a> Command<'a> {
         }
     }
 
-    // Answers the command; those of the collection work on that of the session.
+    // Answers the command; those of the collection work on that of the interpreter.
     pub(crate) fn answer(
         self,
         rt: &HostRuntime,
-        session: &mut Session,
+        interpreter: &mut Interpreter,
     ) -> Result<Answer, Unanswered<'a>> {
         Ok(match self {
             Command::Examine(question, network) => {
@@ -137,17 +137,21 @@ impl<'a> Command<'a> {
                 Answer::Represented(representative(inputs, table)?)
             }
             Command::Ask(question, gates) => Answer::Asked(asked(&question, gates)?),
-            Command::Open(opening) => Answer::Opened(session.open(opening)),
+            Command::Open(opening) => Answer::Opened(interpreter.open(opening)),
             Command::Order(question, gates) => {
-                Answer::Called(session.call(Call::Order { question, gates })?)
+                Answer::Called(interpreter.call(Call::Order { question, gates })?)
             }
             Command::Deposit(question, network) => {
-                Answer::Called(session.call(Call::Deposit { question, network })?)
+                Answer::Called(interpreter.call(Call::Deposit { question, network })?)
             }
-            Command::LookUp(question) => Answer::Called(session.call(Call::LookUp { question })?),
-            Command::Strike(question) => Answer::Called(session.call(Call::Strike { question })?),
-            Command::Load(file) => load(rt, session, file)?,
-            Command::Export(file) => export(rt, session, file)?,
+            Command::LookUp(question) => Answer::Called(interpreter.call(Call::LookUp {
+                question,
+            })?),
+            Command::Strike(question) => Answer::Called(interpreter.call(Call::Strike {
+                question,
+            })?),
+            Command::Load(file) => load(rt, interpreter, file)?,
+            Command::Export(file) => export(rt, interpreter, file)?,
         })
     }
 }
@@ -155,11 +159,11 @@ impl<'a> Command<'a> {
 // Loads the bytes of a file.
 fn load<'a>(
     rt: &HostRuntime,
-    session: &mut Session,
+    interpreter: &mut Interpreter,
     file: &'a str,
 ) -> Result<Answer, Unanswered<'a>> {
     let bytes = fs::read(rt, file).map_err(|_| Unanswered::CannotRead(file))?;
-    Ok(Answer::Called(session.call(Call::Load {
+    Ok(Answer::Called(interpreter.call(Call::Load {
         bytes: bytes.as_slice(),
     })?))
 }
@@ -167,12 +171,12 @@ fn load<'a>(
 // Exports to a file.
 fn export<'a>(
     rt: &HostRuntime,
-    session: &mut Session,
+    interpreter: &mut Interpreter,
     file: &'a str,
 ) -> Result<Answer, Unanswered<'a>> {
-    let answer = session.call(Call::Export)?;
+    let answer = interpreter.call(Call::Export)?;
     if let collection_laws::Answer::Exported { bytes } = answer {
-        fs::write(rt, file, session.written(bytes)).map_err(|_| Unanswered::CannotWrite(file))?;
+        fs::write(rt, file, interpreter.written(bytes)).map_err(|_| Unanswered::CannotWrite(file))?;
     }
     Ok(Answer::Called(answer))
 }

@@ -3,12 +3,12 @@
 
 mod answers;
 mod commands;
-mod session;
+mod interpreter;
 mod words;
 
 use anyhow::anyhow;
 use commands::Command;
-use session::Session;
+use interpreter::Interpreter;
 use std::env;
 use std::fs::File;
 use std::io::{BufRead, BufReader};
@@ -22,7 +22,7 @@ fn before_comment(line: &str) -> &str {
 // Answers one line; nothing where it has no words.
 fn answer_line(
     rt: &HostRuntime,
-    session: &mut Session,
+    interpreter: &mut Interpreter,
     number: u64,
     bytes: &[u8],
 ) -> anyhow::Result<()> {
@@ -32,16 +32,20 @@ fn answer_line(
         return Ok(());
     }
     match Command::read(text) {
-        Ok(command) => write_answer(rt, session, command)?,
+        Ok(command) => write_answer(rt, interpreter, command)?,
         Err(why) => println!(rt; "line {number}: {why}")?,
     }
     Ok(())
 }
 
 // Writes the name of the command and its answer.
-fn write_answer(rt: &HostRuntime, session: &mut Session, command: Command) -> anyhow::Result<()> {
+fn write_answer(
+    rt: &HostRuntime,
+    interpreter: &mut Interpreter,
+    command: Command,
+) -> anyhow::Result<()> {
     let name = command.name();
-    match command.answer(rt, session) {
+    match command.answer(rt, interpreter) {
         Ok(answer) => println!(rt; "{name}: {answer}")?,
         Err(why) => println!(rt; "{name}: {why}")?,
     }
@@ -50,9 +54,9 @@ fn write_answer(rt: &HostRuntime, session: &mut Session, command: Command) -> an
 
 // Answers each line of the input, to its end.
 fn answer_all<R: BufRead + Drop>(rt: &HostRuntime, input: R) -> anyhow::Result<()> {
-    let mut session = Session::new();
+    let mut interpreter = Interpreter::new();
     for (number, line) in (1..u64::MAX).zip(input.split(rt.alloc(), b'\n')) {
-        answer_line(rt, &mut session, number, line?.as_slice())?;
+        answer_line(rt, &mut interpreter, number, line?.as_slice())?;
     }
     Ok(())
 }

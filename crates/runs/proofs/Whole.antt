@@ -12,10 +12,10 @@ use Rattle.collection_laws.specs.declared.call.Call.{Call}
 use Rattle.collection_laws.specs.declared.call.Opening.{Opening}
 use Rattle.collection_laws.specs.declared.call.Opening.TheVariants.{Empty, WithStarters}
 use Rattle.collection_laws.specs.Calls.{Setting, State, deposits_refusal, Deposits}
-use Rattle.collection_laws.specs.Runs.{Reply, Step, lent, Run, History}
+use Rattle.collection_laws.specs.Runs.{Reply, Step, lent, Chain, Run, StepLent, History}
 use Rattle.collection_laws.specs.Law.{SoundTable, AllRight}
 use Rattle.collection_laws.specs.Opening.{starters, starter_question, DepositsUnless, DepositsOne, DepositsAll, Opens}
-use Rattle.collection_laws.proofs.Law.{neither, deposit_sound, runs_compose, run_is_history, histories_compose, history_right}
+use Rattle.collection_laws.proofs.Law.{neither, deposit_sound, chains_compose, run_is_history, history_right}
 
 -- where two lists agree from a place on, they agree from the next
 pub drop-next : {X : Type 0} (xs ys : List X) (i : ℕ) → drop i xs ≡ drop i ys → drop (i + 1) xs ≡ drop (i + 1) ys
@@ -28,12 +28,12 @@ sound_rows (e ∷ es) = (entry_sound e, sound_rows es)
 
 -- a call behind a run
 pub run_then : (s : Setting) (b m a : State) (cs : List Call) (rs : List Reply) (c : Call) (r : Reply) → Run s b cs rs m → Step s m c r a → Run s b (cs ++ c ∷ []) (rs ++ r ∷ []) a
-unfolding Run
-run_then s b m a cs rs c r run step = runs_compose s b m a cs (c ∷ []) rs (r ∷ []) run (a, step, refl)
+unfolding Chain
+run_then s b m a cs rs c r run step = chains_compose (Step s) b m a cs (c ∷ []) rs (r ∷ []) run (a, step, refl)
 
 -- no call
 pub run_none : (s : Setting) (b : State) → Run s b [] [] b
-unfolding Run
+unfolding Chain
 run_none s b = refl
 
 -- a deposit of the starter set keeps what is right
@@ -61,7 +61,7 @@ replies_right reach need words b cs rs a all run = (history_right reach need b c
 -- a run behind a history
 pub history_then : (reach need words : ℕ) (b m a : State) (cs ds : List Call) (rs us : List Reply) → History reach need b cs rs m → Run (lent reach need words) m ds us a
     → History reach need b (cs ++ ds) (rs ++ us) a
-history_then reach need words b m a cs ds rs us earlier run = histories_compose reach need b m a cs ds rs us earlier (run_is_history reach need words m ds us a run)
+history_then reach need words b m a cs ds rs us earlier run = chains_compose (StepLent reach need) b m a cs ds rs us earlier (run_is_history reach need words m ds us a run)
 
 -- every reply of a history from an opening, and of a run behind it, is right
 pub whole_right : (reach need words : ℕ) (o : Opening) (b m a : State) (cs ds : List Call) (rs us : List Reply) → Opens o b.table → History reach need b cs rs m → Run (lent reach need words) m ds us a

@@ -1,17 +1,14 @@
 -- Lower numbers and what asking shows; what is kept stays right.
-use Rattle.std.proofs.Common.{◌≡◌, ℕ, ◌≤◌, Bool, true, false, Option, Some, None, IfSome, inl, inr, sym, ap, subst, arith, length-take}
+use Rattle.std.proofs.Common.{◌≡◌, ℕ, ◌≤◌, Bool, true, false, Option, Some, None, IfSome, inl, inr, sym, subst, arith, length-take}
 use Rattle.std.proofs.lemmas.Bool.{cases_lt}
 use Rattle.mig.specs.declared.network.Network.{Network}
 use Rattle.mig.specs.declared.question.Question.{Question}
-use Rattle.mig.specs.Networks.{Net, net_of, network_of, size}
-use Rattle.mig.specs.Normal.{Normal, normalised}
-use Rattle.mig.specs.Questions.{Meets}
-use Rattle.mig_laws.proofs.Places.{net_of-network_of}
-use Rattle.mig_laws.proofs.Turning.{normalised_meets, normalised_normal, normalised_shape}
+use Rattle.mig.specs.Networks.{net_of, size}
 use Rattle.search.specs.Meaning.{Holds}
 use Rattle.least_gates.specs.Asked.{NoneFrom}
 use Rattle.filing.specs.declared.key.Key.{Key}
 use Rattle.filing.specs.Filing.{key_question, Keepable}
+use Rattle.filing.proofs.Carried.{keepable_normalised}
 use Rattle.entry.specs.declared.entry.Entry.{Entry}
 use Rattle.entry.specs.Bounds.{LowerBound}
 use Rattle.entry.specs.Held.{Held, held, Sound, upper, gates_of, stop}
@@ -41,17 +38,6 @@ upper_not_below k h s = of_kept h.network s.keepable
 -- what an entry keeps is right
 pub entry_sound : (e : Entry) → Sound e.key (held e)
 entry_sound e = record { lower_bound = e.lower_bound; keepable = e.keepable }
-
--- a network that meets the key's question may be kept under the key, normalised
-pub keepable_normalised : (k : Key) (net : Net) → Meets (key_question k) net → size net ≤ 7 → Keepable k (network_of (normalised 4 net))
-keepable_normalised k net m few =
-    let back = net_of-network_of (normalised 4 net) in
-    record {
-      meets = subst (Meets (key_question k)) (sym back) (normalised_meets (key_question k) net m);
-      normal = subst Normal (sym back) (normalised_normal 4 net m.formed);
-      few = omega (arith, (normalised_shape 4 net m.formed).gates);
-      cleared = ap network_of (sym back);
-    }
 
 found_sound : (k : Key) (g : ℕ) (h h' : Held) (asked : ℕ) → Sound k h → Found k g h h' asked → Sound k h'
 found_sound k g h h' asked s f =

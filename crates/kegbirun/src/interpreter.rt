@@ -1,4 +1,4 @@
-// What the commands of a run work on: one collection, and the buffer that exports are written to.
+// What carries out commands: it holds one collection, and the buffer that exports are written to.
 use bound_layer::BoundLayer;
 use collection::Collection;
 use collection_laws::{Answer, Call, Opening};
@@ -18,14 +18,14 @@ fn delivered() -> Delivered {
 const EXPORT_BYTES: usize = 64 * 33;
 
 #[derive(Drop)]
-pub(crate) struct Session {
+pub(crate) struct Interpreter {
     collection: Collection<Delivered>,
     buffer: [u8; EXPORT_BYTES],
 }
 
-impl Session {
-    pub(crate) fn new() -> Session {
-        Session {
+impl Interpreter {
+    pub(crate) fn new() -> Interpreter {
+        Interpreter {
             collection: open(delivered(), Opening::Empty),
             buffer: [0; EXPORT_BYTES],
         }

@@ -1,0 +1,2 @@
+mod Takings
+mod Uses

@@ -1,0 +1,4 @@
+pub mod Numbering
+pub mod Choices
+pub mod Pairs
+pub mod Uses
