@@ -285,7 +285,7 @@ def compare_cadical(count, seed):
         n, r = rng.randrange(4), rng.randrange(4)
         depth, fan_out = rng.choice((0, 1, 2, 3, 7)), rng.choice((1, 2, 3, 5, 19))
         table = rng.randrange(2**2**n)
-        if rng.random() < 0.7:
+        if rng.random() < 0.4:
             k = rng.randrange(r + 1)
             gates = [[rng.randrange(2 * (n + 1 + i)) for _ in range(3)] for i in range(k)]
             output = rng.randrange(2 * (n + 1 + k))
