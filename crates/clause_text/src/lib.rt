@@ -1,4 +1,4 @@
-// The clauses of a question and a number of gates as text, and sinks that count and write the text of any clauses.
+// The clauses of a question and a number of gates as text.
 #![tactic(auto)]
 
 mod bytes;
@@ -8,6 +8,4 @@ mod length;
 mod text;
 mod writer;
 
-pub use length::TextLength;
 pub use text::{clause_text, clause_text_length};
-pub use writer::TextWriter;

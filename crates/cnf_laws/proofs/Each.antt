@@ -20,11 +20,6 @@ each_more a x f l =
     let q : a + (x - a) ≡ x = omega arith in
     ap (λ m. each a m f) p ∙ each_push a (x - a) f ∙ ap (λ k. each a (x - a) f ++ f k) q
 
--- no part
-pub each_none : {X : Type 0} (a : ℕ) (f : ℕ → List X) → each a (a - a) f ≡ []
-unfolding each
-each_none a f = let e : a - a ≡ 0 = omega arith in ap (λ m. each a m f) e
-
 pub total_more : (a x : ℕ) (g : ℕ → ℕ) → a ≤ x → total a (suc x - a) g ≡ total a (x - a) g + g x
 unfolding total
 total_more a x g l =
