@@ -1,4 +1,5 @@
 mod Gates
 mod Places
-mod Whole
+mod Spelled
+pub mod Whole
 pub mod Steps
