@@ -1,5 +1,5 @@
 mod Gates
 mod Places
-mod Spelled
-pub mod Whole
+pub mod Spelled
+mod Whole
 pub mod Steps
