@@ -11,3 +11,4 @@ mod output;
 mod values;
 
 pub use generator::{generate, variable_count};
+pub use numbering::Numbering;

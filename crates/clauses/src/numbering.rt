@@ -14,9 +14,9 @@ use mig::{Question, Refusal};
 pub struct Numbering {
     pub inputs: u8,
     pub gates: u8,
-    pub rows: u8,
-    pub depth: u8,
-    pub fan_out: u8,
+    pub(crate) rows: u8,
+    pub(crate) depth: u8,
+    pub(crate) fan_out: u8,
     complements: u32,
     fan_in_values: u32,
     gate_values: u32,
@@ -120,7 +120,7 @@ impl Numbering {
 
     // The number of A(i, c, t): the value of fan-in c of gate i in row t.
     #[tactic(auto, unfolding(cnf::specs::Numbers::number))]
-    pub fn fan_in_value(&self, gate: u8, fan_in: u8, row: u8) -> u32
+    pub(crate) fn fan_in_value(&self, gate: u8, fan_in: u8, row: u8) -> u32
         ensures { result ≡ numbered_by self.now (A gate fan_in row) }
     {
         self.fan_in_values
@@ -130,7 +130,7 @@ impl Numbering {
 
     // The number of B(i, t): the value of gate i in row t.
     #[tactic(auto, unfolding(cnf::specs::Numbers::number))]
-    pub fn gate_value(&self, gate: u8, row: u8) -> u32
+    pub(crate) fn gate_value(&self, gate: u8, row: u8) -> u32
         ensures { result ≡ numbered_by self.now (B gate row) }
     {
         self.gate_values + gates_before(self.inputs, gate) * u32::from(self.rows) + u32::from(row)
@@ -154,7 +154,7 @@ impl Numbering {
 
     // The number of H(i, d): the level of gate i exceeds d.
     #[tactic(auto, unfolding(cnf::specs::Numbers::number))]
-    pub fn level_exceeds(&self, gate: u8, level: u8) -> u32
+    pub(crate) fn level_exceeds(&self, gate: u8, level: u8) -> u32
         ensures { result ≡ numbered_by self.now (H gate level) }
     {
         self.levels
@@ -164,7 +164,7 @@ impl Numbering {
 
     // How many uses a gate can have: three by each later gate, and one by the output.
     #[tactic(auto, using(cnf_laws::proofs::Each::length_uses))]
-    pub fn uses(&self, gate: u8) -> u8
+    pub(crate) fn uses(&self, gate: u8) -> u8
         ensures count { result ≡ length (uses_of self.now.inputs self.now.gates gate) }
         ensures bound { result ≤ 34 }
     {
@@ -186,7 +186,7 @@ impl Numbering {
 
     // The number of the first variable K of a gate, if it has one.
     #[tactic(auto, using(cnf_laws::proofs::Each::total_more), unfolding(cnf::specs::Numbers::total))]
-    pub fn first_counter(&self, gate: u8) -> u32
+    pub(crate) fn first_counter(&self, gate: u8) -> u32
         requires { suc self.now.inputs ≤ gate }
         ensures bound { result < 3000000 }
         ensures number { result ≡
@@ -203,7 +203,7 @@ impl Numbering {
     // The number of K(j, k, q): at least q of the first k uses of gate j hold. The first K of the gate has the number
     // `first`.
     #[tactic(auto, unfolding(cnf::specs::Numbers::number))]
-    pub fn uses_at_least(&self, first: u32, place: u8, count: u8) -> u32
+    pub(crate) fn uses_at_least(&self, first: u32, place: u8, count: u8) -> u32
         requires { first < 3000000 }
         ensures { (j : ℕ) → first ≡ first_K self.now.inputs self.now.depth self.now.gates + total (suc self.now.inputs) (j - suc self.now.inputs) (counters self.now.inputs self.now.fan_out self.now.gates)
             → result ≡ numbered_by self.now (K j place count) }

@@ -1,0 +1,3 @@
+mod Lists
+mod Texts
+mod Bounds
