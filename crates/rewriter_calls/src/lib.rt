@@ -2,5 +2,7 @@
 #![tactic(auto)]
 
 mod examining;
+mod writing;
 
 pub use examining::examine_bytes;
+pub use writing::write_clause_text;
