@@ -1,0 +1,6 @@
+mod Writing
+mod Parts
+mod Said
+mod Nodes
+mod Uses
+mod Whole
