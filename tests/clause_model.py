@@ -17,7 +17,7 @@ import subprocess
 import sys
 
 from command_model import (
-    PROGRAM, Refused, WORDS, check_question, code_bit, examine, fan_outs, network_word, node_bit, node_level)
+    PROGRAM, Refused, WORDS, check_form, check_question, code_bit, examine, fan_outs, network_word, node_bit, node_level)
 
 WORDS = dict(WORDS)
 WORDS.update({14: "buffer too short", 18: "not one byte of 0 or 1 for each variable", 19: "a clause fails"})
@@ -218,8 +218,9 @@ def random_command(rng):
     k = min(rng.randrange(r + 2), 7) if rng.random() < 0.9 else rng.randrange(9)
     gates, output = random_network(rng, min(n, 4), k)
     try:
+        check_form(min(n, 4), gates, output)
         table = sum(code_bit(min(n, 4), gates, output, row) << row for row in range(2**min(n, 4)))
-    except IndexError:
+    except Refused:
         table = 0
     if rng.random() < 0.2:
         table ^= 1 << rng.randrange(2**min(n, 4) + 1)
@@ -239,7 +240,7 @@ def random_digits(rng, question, gates, output):
     """The digits of the network's assignment, sometimes damaged; random ones where it has none."""
     try:
         digits = write_assignment(*question, gates, output)
-    except (Refused, IndexError):
+    except Refused:
         digits = "".join(rng.choice("01") for _ in range(rng.randrange(1, 60)))
     damage = rng.random()
     at = rng.randrange(len(digits))
@@ -284,7 +285,7 @@ def compare_cadical(count, seed):
         n, r = rng.randrange(4), rng.randrange(4)
         depth, fan_out = rng.choice((0, 1, 2, 3, 7)), rng.choice((1, 2, 3, 5, 19))
         table = rng.randrange(2**2**n)
-        if rng.random() < 0.7:
+        if rng.random() < 0.4:
             k = rng.randrange(r + 1)
             gates = [[rng.randrange(2 * (n + 1 + i)) for _ in range(3)] for i in range(k)]
             output = rng.randrange(2 * (n + 1 + k))

@@ -6,23 +6,30 @@ use std::fmt;
 #[derive(Clone, Copy)]
 pub(crate) enum Answer {
     Examined { level: u8, fan_out: u8 },
-    Normalised(Network),
+    Told(Network),
     Represented(u16),
     Asked(Option<Network>),
     Opened(usize),
     Called(collection_laws::Answer),
+    Written(usize),
+    // Two answers that stand at the beginning of the interpreter's buffer, and how many bytes they have.
+    ClauseText(usize),
+    Digits(usize),
 }
 
 impl fmt::Display for Answer {
     fn fmt<W: fmt::Write>(&self, f: &mut fmt::Formatter<W>) -> fmt::Result {
         match self {
             Answer::Examined { level, fan_out } => write!(f, "level {level} fan-out {fan_out}"),
-            Answer::Normalised(network) => write!(f, "{network}"),
+            Answer::Told(network) => write!(f, "{network}"),
             Answer::Represented(table) => write!(f, "{table:04x}"),
             Answer::Asked(Some(network)) => write!(f, "found {network}"),
             Answer::Asked(None) => write!(f, "none"),
             Answer::Opened(entries) => write!(f, "{entries} entries"),
             Answer::Called(answer) => write_called(answer, f),
+            Answer::Written(bytes) => write!(f, "{bytes} bytes"),
+            // What stands in the interpreter's buffer is written from there.
+            Answer::ClauseText(_) | Answer::Digits(_) => Ok(()),
         }
     }
 }

@@ -23,6 +23,9 @@ pub(crate) enum Command<'a> {
     Strike(Question),
     Load(&'a str),
     Export(&'a str),
+    Clauses(Question, u8, Option<&'a str>),
+    Assignment(Question, u8, Network),
+    NetworkOf(Question, u8, &'a str),
 }
 
 // Why a command has no answer.
@@ -70,6 +73,16 @@ fn next_opening(words: &mut SplitAsciiWhitespace) -> Result<Opening, Unreadable>
     }
 }
 
+// A row of decimal digits.
+fn next_digits<'a>(words: &mut SplitAsciiWhitespace<'a>) -> Result<&'a str, Unreadable> {
+    let word = words.next().ok_or(Unreadable::TooFewWords)?;
+    if word.bytes().all(|byte| byte.is_ascii_digit()) {
+        Ok(word)
+    } else {
+        Err(Unreadable::NoDigits)
+    }
+}
+
 // The name of a file.
 fn next_file<'a>(words: &mut SplitAsciiWhitespace<'a>) -> Result<&'a str, Unreadable> {
     words.next().ok_or(Unreadable::TooFewWords)
@@ -101,6 +114,11 @@ impl<'a> Command<'a> {
             "strike" => Command::Strike(next_question(words)?),
             "load" => Command::Load(next_file(words)?),
             "export" => Command::Export(next_file(words)?),
+            "clauses" => Command::Clauses(next_question(words)?, next(words)?, words.next()),
+            "assignment" => Command::Assignment(next_question(words)?, next(words)?, next(words)?),
+            "network" => {
+                Command::NetworkOf(next_question(words)?, next(words)?, next_digits(words)?)
+            }
             _ => return Err(Unreadable::UnknownCommand),
         })
     }
@@ -118,6 +136,9 @@ impl<'a> Command<'a> {
             Command::Strike(..) => "strike",
             Command::Load(..) => "load",
             Command::Export(..) => "export",
+            Command::Clauses(..) => "clauses",
+            Command::Assignment(..) => "assignment",
+            Command::NetworkOf(..) => "network",
         }
     }
 
@@ -132,7 +153,7 @@ impl<'a> Command<'a> {
                 let (level, fan_out) = examine(&question, &network)?;
                 Answer::Examined { level, fan_out }
             }
-            Command::Normalise(inputs, network) => Answer::Normalised(normalise(inputs, &network)?),
+            Command::Normalise(inputs, network) => Answer::Told(normalise(inputs, &network)?),
             Command::Representative(inputs, table) => {
                 Answer::Represented(representative(inputs, table)?)
             }
@@ -152,6 +173,20 @@ impl<'a> Command<'a> {
             })?),
             Command::Load(file) => load(rt, interpreter, file)?,
             Command::Export(file) => export(rt, interpreter, file)?,
+            Command::Clauses(question, gates, None) => {
+                Answer::ClauseText(interpreter.clause_text(&question, gates)?)
+            }
+            Command::Clauses(question, gates, Some(file)) => {
+                let bytes = interpreter.clause_text(&question, gates)?;
+                write_file(rt, interpreter, bytes, file)?;
+                Answer::Written(bytes)
+            }
+            Command::Assignment(question, gates, network) => {
+                Answer::Digits(interpreter.assignment(&question, gates, &network)?)
+            }
+            Command::NetworkOf(question, gates, digits) => {
+                Answer::Told(interpreter.network(&question, gates, digits)?)
+            }
         })
     }
 }
@@ -176,7 +211,17 @@ fn export<'a>(
 ) -> Result<Answer, Unanswered<'a>> {
     let answer = interpreter.call(Call::Export)?;
     if let collection_laws::Answer::Exported { bytes } = answer {
-        fs::write(rt, file, interpreter.written(bytes)).map_err(|_| Unanswered::CannotWrite(file))?;
+        write_file(rt, interpreter, bytes, file)?;
     }
     Ok(Answer::Called(answer))
+}
+
+// Writes the first bytes of the interpreter's buffer to a file.
+fn write_file<'a>(
+    rt: &HostRuntime,
+    interpreter: &Interpreter,
+    bytes: usize,
+    file: &'a str,
+) -> Result<(), Unanswered<'a>> {
+    fs::write(rt, file, interpreter.written(bytes)).map_err(|_| Unanswered::CannotWrite(file))
 }

@@ -1,5 +1,8 @@
-// What carries out commands: it holds one collection, and the buffer that exports are written to.
+// What carries out commands: it holds one collection, and a buffer that exports, clause texts and assignments are written to.
+use assignment_reader::read_assignment;
+use assignment_writer::write_assignment;
 use bound_layer::BoundLayer;
+use clause_text::clause_text;
 use collection::Collection;
 use collection_laws::{Answer, Call, Opening};
 use enumeration::Enumeration;
@@ -14,20 +17,20 @@ fn delivered() -> Delivered {
     BoundLayer::new(Enumeration::new())
 }
 
-// 64 records of seven gates are the most that an export writes.
-const EXPORT_BYTES: usize = 64 * 33;
+// The longest clause text has fewer bytes, and so has every export: at most 64 records of seven gates.
+const BUFFER_BYTES: usize = 1 << 18;
 
 #[derive(Drop)]
 pub(crate) struct Interpreter {
     collection: Collection<Delivered>,
-    buffer: [u8; EXPORT_BYTES],
+    buffer: [u8; BUFFER_BYTES],
 }
 
 impl Interpreter {
     pub(crate) fn new() -> Interpreter {
         Interpreter {
             collection: open(delivered(), Opening::Empty),
-            buffer: [0; EXPORT_BYTES],
+            buffer: [0; BUFFER_BYTES],
         }
     }
 
@@ -50,9 +53,41 @@ impl Interpreter {
         replies[0]
     }
 
+    // Writes the clauses of a question and a number of gates to the buffer; how many bytes that are.
+    pub(crate) fn clause_text(&mut self, question: &Question, gates: u8) -> Result<usize, Refusal> {
+        clause_text(question, gates, &mut self.buffer)
+    }
+
+    // Writes the assignment of a network to the buffer, a digit for each variable; how many digits that are.
+    pub(crate) fn assignment(
+        &mut self,
+        question: &Question,
+        gates: u8,
+        network: &Network,
+    ) -> Result<usize, Refusal> {
+        let variables = write_assignment(question, gates, network, &mut self.buffer)?;
+        for byte in self.buffer.iter_mut().take(variables) {
+            *byte = b'0'.saturating_add(*byte);
+        }
+        Ok(variables)
+    }
+
+    // The network that an assignment tells, which is given by a digit for each variable.
+    pub(crate) fn network(
+        &mut self,
+        question: &Question,
+        gates: u8,
+        digits: &str,
+    ) -> Result<Network, Refusal> {
+        for (byte, digit) in self.buffer.iter_mut().zip(digits.bytes()) {
+            *byte = digit.saturating_sub(b'0');
+        }
+        read_assignment(question, gates, self.written(digits.len()))
+    }
+
     // The first bytes of the buffer.
     pub(crate) fn written(&self, bytes: usize) -> &[u8] {
-        &self.buffer[..bytes.min(EXPORT_BYTES)]
+        &self.buffer[..bytes.min(BUFFER_BYTES)]
     }
 }
 

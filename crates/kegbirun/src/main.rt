@@ -6,12 +6,13 @@ mod commands;
 mod interpreter;
 mod words;
 
+use answers::Answer;
 use anyhow::anyhow;
 use commands::Command;
 use interpreter::Interpreter;
 use std::env;
 use std::fs::File;
-use std::io::{BufRead, BufReader};
+use std::io::{BufRead, BufReader, Write};
 use std::process::ExitCode;
 
 // The text of a line before its comment, which `#` begins.
@@ -46,6 +47,12 @@ fn write_answer(
 ) -> anyhow::Result<()> {
     let name = command.name();
     match command.answer(rt, interpreter) {
+        Ok(Answer::ClauseText(bytes)) => rt.stdout().write_all(interpreter.written(bytes))?,
+        Ok(Answer::Digits(bytes)) => {
+            print!(rt; "{name}: ")?;
+            rt.stdout().write_all(interpreter.written(bytes))?;
+            println!(rt; "")?;
+        }
         Ok(answer) => println!(rt; "{name}: {answer}")?,
         Err(why) => println!(rt; "{name}: {why}")?,
     }

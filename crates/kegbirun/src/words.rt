@@ -22,6 +22,8 @@ pub(crate) enum Unreadable {
     NoNetwork,
     #[error("neither empty nor starter")]
     NoOpening,
+    #[error("not a row of digits")]
+    NoDigits,
 }
 
 // A value that one word says. It is no FromStr: that of a number refuses large ones, and a network is of another crate.
