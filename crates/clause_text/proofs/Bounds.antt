@@ -33,6 +33,7 @@ decimal_short : (n : ℕ) → length (decimal n) ≤ 64
 unfolding digits
 decimal_short n = length_digits 64 n []
 
+-- a minus is one byte, a literal at most 66, and the literals of a clause so many times as many
 sign_short : (t : Bool) → length {A = ℕ} (cond t (45 ∷ []) []) ≤ 1
 sign_short true = omega arith
 sign_short false = omega arith
@@ -126,6 +127,7 @@ module _ (g : Var → ℕ) where
             (λ y _ _. bytes_short (pair x y) refl)),
       )
 
+  -- the clauses of each kind, for one place
   given_bytes : (v : Bool) (i c j t : ℕ) → bytes (fan_in_given v i c j t) ≤ 532
   given_bytes true i c j t = bytes_short (fan_in_given true i c j t) refl
   given_bytes false i c j t = bytes_short (fan_in_given false i c j t) refl
@@ -162,6 +164,7 @@ module _ (g : Var → ℕ) where
 
   -- over at most four inputs and seven gates
   module _ (n r : ℕ) (inputs : n ≤ 4) (gates : r ≤ 7) where
+    -- the groups of clauses
     rows : 2 ^ n ≤ 16
     rows = pow-le-pow_right (lit< tt) inputs
 
@@ -236,6 +239,7 @@ module _ (g : Var → ℕ) where
           fan_outs_bytes f low,
         )
 
+-- the first line
 head_bytes : (v m : ℕ) → length (head_text v m) ≤ 136
 head_bytes v m =
     let ends = length-append (decimal m) (10 ∷ []) in

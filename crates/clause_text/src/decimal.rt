@@ -1,4 +1,4 @@
-// The digits of numbers.
+// The digits of a number: how many there are, and how they are written into a buffer.
 ghost use Rattle.std.specs.Prelude.{◌≡◌, ◌≤◌, length};
 ghost use Rattle.std.specs.Fmt.{decimal};
 ghost use Rattle.clause_text.specs.Writing.{Writes};
@@ -29,16 +29,4 @@ pub(crate) fn write_decimal(number: u64, buffer: &mut [u8], place: usize) -> usi
     }
     write_digits(number, buffer, place + digits);
     place + digits
-}
-
-// Writes bytes behind a place, if there is room, and gives the place behind them.
-pub(crate) fn write_bytes(bytes: &[u8], buffer: &mut [u8], place: usize) -> usize
-    ensures { Writes bytes.now buffer.old place buffer.new result }
-{
-    if buffer.len() < place || buffer.len() - place < bytes.len() {
-        return place;
-    }
-    let end = place + bytes.len();
-    buffer[place..end].copy_from_slice(bytes);
-    end
 }

@@ -1,9 +1,10 @@
-// The first line of the text.
+// The first line of the text: how many variables and clauses there are.
 ghost use Rattle.std.specs.Prelude.{◌≡◌, ◌≤◌, length};
 ghost use Rattle.cnf.specs.Text.{head_text};
 ghost use Rattle.clause_text.specs.Writing.{Writes};
 
-use crate::decimal::{digit_count, write_bytes, write_decimal};
+use crate::bytes::write_bytes;
+use crate::decimal::{digit_count, write_decimal};
 
 // How many bytes the first line has.
 pub(crate) fn head_length(variables: u32, clauses: usize) -> usize

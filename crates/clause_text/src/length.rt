@@ -1,5 +1,5 @@
 // A sink that counts: how many clauses it took, and how many bytes their text has.
-ghost use Rattle.std.specs.Prelude.{◌≡◌, ◌+◌, length};
+ghost use Rattle.std.specs.Prelude.{◌≡◌, length};
 ghost use Rattle.cnf.specs.Text.{literal_text, clause_text, clauses_text};
 ghost use Rattle.clause_text.specs.Counting.{saturated, CountsOn};
 ghost use Rattle.clause_text.specs.Laws.{counts_nothing, counts_more, counts_more_clauses};

@@ -1,6 +1,7 @@
-// The clauses of a question and a number of gates as text.
+// The clauses of a question and a number of gates as text, and sinks that count and write the text of any clauses.
 #![tactic(auto)]
 
+mod bytes;
 mod decimal;
 mod head;
 mod length;

@@ -1,11 +1,12 @@
-// A sink that writes.
-ghost use Rattle.std.specs.Prelude.{◌≡◌, ◌+◌, ◌≤◌, ◌++◌, refl, cond, List, [], ◌∷◌, length, take, drop};
+// A sink that writes the text of clauses into a lent buffer.
+ghost use Rattle.std.specs.Prelude.{◌≡◌, refl, cond, [], ◌∷◌};
 ghost use Rattle.std.proofs.Common.{◌∙◌};
 ghost use Rattle.cnf.specs.Text.{literal_text, clause_text, clauses_text};
 ghost use Rattle.clause_text.specs.Writing.{Writes};
 ghost use Rattle.clause_text.specs.Laws.{writes_nothing, writes_more_clauses};
 
-use crate::decimal::{write_bytes, write_decimal};
+use crate::bytes::write_bytes;
+use crate::decimal::write_decimal;
 use cnf::{ClauseSink, Literal};
 
 // Writes a minus before the number of a complemented literal.

@@ -1,1 +1,2 @@
 mod Records
+mod Clauses

@@ -1,5 +1,5 @@
 -- The known cells and the answers on them.
-use Rattle.std.specs.Prelude.{ℕ, [], ◌∷◌, Some, Ok, Err}
+use Rattle.std.specs.Prelude.{ℕ, List, [], ◌∷◌, ◌++◌, codes, Some, Ok, Err}
 use Rattle.mig.specs.declared.network.Gate.{Gate}
 use Rattle.mig.specs.declared.network.Network.{Network}
 use Rattle.mig.specs.declared.question.Question.{Question}
@@ -28,7 +28,11 @@ three_gates = network_of (record { gates = gate 2 4 6 ∷ gate 2 4 7 ∷ gate 9 
 abbrev pub deposit_of_majority : Part
 deposit_of_majority = record { place = 0; «record» = Ok (record { question = question 3 0xe8 1 1; network = one_gate 2 4 6 8 }) }
 
--- the answers: level and greatest fan-out, a refusal, a normal form, representatives, a record
+-- the clauses of the constant 1 over no input, with no gate: the output is the node 0, and if so it is complemented
+abbrev pub smallest_clause_text : List ℕ
+smallest_clause_text = codes "p cnf 2 2" ++ (10 ∷ (codes "1 0" ++ (10 ∷ (codes "-1 2 0" ++ (10 ∷ [])))))
+
+-- the answers: level and greatest fan-out, a refusal, a normal form, representatives, a record, a text
 abbrev pub table : KnownCells
 table =
     record {
@@ -42,4 +46,5 @@ table =
       class_of_an_input = Ok 0x00ff;
       class_of_majority = Ok 0x033f;
       deposit_of_majority = Some deposit_of_majority;
+      smallest_clause_text = smallest_clause_text;
     }

@@ -1,12 +1,13 @@
-// Known cells: what `examine` and `normalise` answer on some networks, the representatives of some tables, and what some bytes
-// say, as one proved table.
+// Known cells: what `examine` and `normalise` answer on some networks, the representatives of some tables, what some bytes
+// say, and the smallest clause text, as one proved table.
 #![tactic(auto)]
 
 ghost use Rattle.std.specs.Prelude.{◌≡◌, ◌≤◌, length, Some};
 ghost use Rattle.mig.specs.Networks.{network_of};
-ghost use Rattle.known_cells.specs.Table.{table, question, gate, three_gates, deposit_of_majority};
+ghost use Rattle.known_cells.specs.Table.{table, question, gate, three_gates, deposit_of_majority, smallest_clause_text};
 
 use classes::representative;
+use clause_text::clause_text;
 use examine::examine;
 use mig::{Gate, Limits, Network, Question, Refusal};
 use normalise::normalise;
@@ -25,6 +26,7 @@ pub struct KnownCells {
     pub class_of_an_input: Result<u16, Refusal>,
     pub class_of_majority: Result<u16, Refusal>,
     pub deposit_of_majority: Option<Part>,
+    pub smallest_clause_text: [u8; 21],
 }
 
 // The question of a number of inputs, a table and the two limits.
@@ -81,7 +83,16 @@ fn deposit_of_majority() -> Option<Part>
     Reader::new(&bytes).next()
 }
 
-// Examines and normalises the known cells, takes their representatives, and reads a record.
+// The clause text of the constant 1 over no input, with no gate.
+fn smallest_clause_text() -> [u8; 21]
+    ensures { result ≡ smallest_clause_text }
+{
+    let mut text = [0; 21];
+    let _bytes = clause_text(&asked(0, 0x1, 0, 1), 0, &mut text);
+    text
+}
+
+// Examines and normalises the known cells, takes their representatives, reads a record, and writes a clause text.
 pub fn known_cells() -> KnownCells
     ensures { result ≡ table }
 {
@@ -97,5 +108,6 @@ pub fn known_cells() -> KnownCells
         class_of_an_input: representative(1, 0x2),
         class_of_majority: representative(3, 0xe8),
         deposit_of_majority: deposit_of_majority(),
+        smallest_clause_text: smallest_clause_text(),
     }
 }

@@ -31,4 +31,5 @@ returns c =
       c.representative-3.ensures.answer,
       c.representative-4.ensures.answer,
       c.deposit_of_majority.ensures,
+      c.smallest_clause_text.ensures,
     ) (unfold walk uses_in greatest input_bits is_ordered all_below first_normalised representative_of least_of old_row table_from in refl)
