@@ -147,7 +147,7 @@ static uint32_t text_call(const struct question *q, uint8_t gates, uint8_t *buff
     *length = MARK;
     uint32_t number = kegbirun_clause_text(q->inputs, q->table, q->depth, q->fan_out, gates, buffer, room, length);
     if (number == KEGBIRUN_DONE)
-        require(*length <= room && all_marks(buffer + *length, room - *length), "clause text: bytes behind the text are altered");
+        require(*length <= room && all_marks(buffer + *length, room - *length), "clause text: bytes behind it are altered");
     else
         require(*length == MARK && all_marks(buffer, room), "clause text: a refusal alters something");
     return number;
@@ -166,7 +166,7 @@ static uint32_t clause_text_calls(const struct question *q, uint8_t gates) {
         uint8_t *exact = block(length), *shorter = block(length - 1);
         require(text_call(q, gates, exact, length, &again) == KEGBIRUN_DONE, "clause text: a buffer of its length is refused");
         require(again == length && memcmp(text, exact, length) == 0, "clause text: another text in a buffer of its length");
-        require(text_call(q, gates, shorter, length - 1, &again) == KEGBIRUN_BUFFER_TOO_SHORT, "clause text: a short buffer passes");
+        require(text_call(q, gates, shorter, length - 1, &again) == KEGBIRUN_BUFFER_TOO_SHORT, "clause text: a short one passes");
         require(fwrite(text, 1, length, answers) == length, "answers cannot be written");
         free(exact);
         free(shorter);

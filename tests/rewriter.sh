@@ -46,4 +46,5 @@ fi
 accepted=$(grep -c "^examine: level" "$work/answers")
 texts=$(grep -c "^p cnf" "$work/answers")
 refused=$(grep -c ": refused" "$work/answers")
-echo "$(wc -l <"$work/commands") calls compared with the program: $accepted networks accepted, $texts clause texts, $refused refused; no difference; $checked"
+compared=$(wc -l <"$work/commands")
+echo "$compared calls compared with the program, no difference: $accepted networks accepted, $texts clause texts, $refused refused; $checked"
