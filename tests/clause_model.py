@@ -3,6 +3,8 @@
 
   clause_model.py --text N TABLE D F R    prints the model's text
   clause_model.py --longest               the longest text and the most variables of any question
+  clause_model.py --write                 writes the stored commands on clauses of crates/kegbirun and their answers, behind all others
+  clause_model.py --check                 compares these stored answers with the model's
   clause_model.py --random N SEED         runs the built program on N random commands on clauses and compares each answer
   clause_model.py --cadical N SEED        N random questions with up to three inputs and three gates: cadical's verdict on the
                                           program's text is that of `ask`, and cadical's model, handed back through `network`,
@@ -12,12 +14,13 @@ The model is written from the rules in docs/ alone. It first lists the variables
 them by counting; the clauses are lists of such variables. It writes and reads assignments by the same list.
 """
 import itertools
+import os
 import random
 import subprocess
 import sys
 
-from command_model import (
-    PROGRAM, Refused, WORDS, check_form, check_question, code_bit, examine, fan_outs, network_word, node_bit, node_level)
+from command_model import CLAUSES, PROGRAM, Refused, STORED, WORDS, check_form, check_question, code_bit, examine
+from command_model import network_word, node_bit, node_level, read
 
 WORDS = dict(WORDS)
 WORDS.update({14: "buffer too short", 18: "not one byte of 0 or 1 for each variable", 19: "a clause fails"})
@@ -194,6 +197,112 @@ def checked_text(*words):
     return text(*words)
 
 
+BORDERS = """\
+clauses 0 1 0 1 0
+clauses 0 0 1 1 1
+clauses 0 1 0 1 2
+clauses 1 2 1 2 1
+clauses 2 8 1 3 1
+clauses 5 1 0 1 0
+clauses 0 2 0 1 0
+clauses 0 1 8 1 0
+clauses 0 1 0 0 0
+clauses 0 1 0 20 0
+clauses 0 1 0 1 8
+clauses 5 2 8 0 8
+assignment 0 1 0 1 0 :1
+assignment 0 0 1 1 1 :0
+assignment 3 e8 7 19 1 2.4.6:8
+assignment 3 e8 1 1 2 2.4.6:8
+assignment 3 96 2 1 3 2.4.6,2.4.7,9.10.6:12
+assignment 3 96 1 1 3 2.4.6,2.4.7,9.10.6:12
+assignment 3 e8 1 1 0 2.4.6:8
+assignment 3 e8 1 1 8 2.4.6:8
+assignment 3 e9 1 1 8 2.4.6:8
+assignment 3 e8 1 1 1 2.4.8:8
+assignment 2 8 2 1 2 0.2.4,6.6.6:8
+network 0 1 0 1 0 11
+network 0 1 0 1 0 10
+network 0 1 0 1 0 01
+network 0 1 0 1 0 00
+network 0 1 0 1 0 1
+network 0 1 0 1 0 110
+network 0 1 0 1 0 12
+network 0 1 0 1 8 11
+network 5 1 0 1 0 11
+network 0 0 1 1 1 111000000010010
+network 0 0 1 1 1 111000000010011
+"""
+
+# commands, and what the program says of them
+OTHERS = [
+    ("clauses 0 1 0 1", "line {}: too few words for this command"),
+    ("clauses 0 1 0 1 0 a b", "line {}: too many words for this command"),
+    ("clauses 0 1 0 1 0 written", "clauses: 21 bytes"),
+    ("clauses 0 1 0 1 8 written", "clauses: refused 5 more gates than the search reaches"),
+    ("clauses 0 1 0 1 0 no/such/folder", "clauses: cannot write no/such/folder"),
+    ("assignment 0 1 0 1 0", "line {}: too few words for this command"),
+    ("assignment 0 1 0 1 0 1", "line {}: not a network"),
+    ("network 0 1 0 1 0", "line {}: too few words for this command"),
+    ("network 0 1 0 1 0 1x", "line {}: not a row of digits"),
+    ("network 0 1 0 1 0 " + "1" * 300, "network: refused 18 not one byte of 0 or 1 for each variable"),
+]
+
+
+def modelled(line):
+    """The model's answer to a command on clauses that can be read."""
+    name, *words = line.split()
+    question = (int(words[0]), int(words[1], 16), *map(int, words[2:5]))
+    if name == "clauses":
+        return answer(name, checked_text, *question)
+    if name == "network":
+        return answer(name, read_assignment, *question, words[5])
+    gates, output = words[5].split(":")
+    gates = [[int(code) for code in gate.split(".")] for gate in gates.split(",") if gate]
+    return answer(name, write_assignment, *question, gates, int(output))
+
+
+def stored(before):
+    """The stored commands on clauses, which begin behind so many lines, and their answers."""
+    rng = random.Random(30)
+    pairs = [(line, modelled(line)) for line in BORDERS.splitlines()]
+    while len(pairs) < 120:
+        command, wanted = random_command(rng)
+        if len(wanted) < 1500 and len(command) < 1500:
+            pairs.append((command.strip(), wanted))
+    number = before + len(pairs)
+    for i, (line, wanted) in enumerate(OTHERS, 1):
+        pairs.append((line, wanted.format(number + i) + "\n"))
+    return "\n".join(line for line, _ in pairs), "".join(wanted for _, wanted in pairs)
+
+
+def stored_parts():
+    """What stands in the stored files before the commands on clauses, and these; the same of the answers."""
+    commands, _, behind = read("stdin").partition(CLAUSES)
+    lines, answers = stored(commands.count(b"\n") + 2)
+    return commands, behind, lines.encode(), answers.encode()
+
+
+def write_stored():
+    commands, behind, lines, answers = stored_parts()
+    others = read("stdout")
+    if behind:
+        others = others[: len(others) - len(answers)]
+    for name, content in (("stdin", commands + CLAUSES + lines), ("stdout", others + answers)):
+        with open(os.path.join(STORED, name), "wb") as file:
+            file.write(content)
+    return 0
+
+
+def check_stored():
+    _, behind, lines, answers = stored_parts()
+    if behind != lines or not read("stdout").endswith(answers):
+        print("the stored commands on clauses or their answers are not the model's")
+        return 1
+    print("the stored answers are the model's")
+    return 0
+
+
 def run_program(commands):
     return subprocess.run([PROGRAM], input="".join(commands), capture_output=True, text=True, check=True).stdout
 
@@ -324,6 +433,10 @@ def main(words):
         return 0
     if words == ["--longest"]:
         return longest()
+    if words == ["--write"]:
+        return write_stored()
+    if words == ["--check"]:
+        return check_stored()
     if words[:1] == ["--random"] and len(words) == 3:
         return compare_random(int(words[1]), int(words[2]))
     if words[:1] == ["--cadical"] and len(words) == 3:

@@ -9,7 +9,8 @@
                                         but for the lower numbers; then loads damaged copies of the file
   collection_model.py --check [SCRIPT ANSWERS]
                                         compares stored answers with the model's, those of crates/kegbirun if none are named;
-                                        files that the script loads stand in the folder data beside it
+                                        files that the script loads stand in the folder data beside it; commands on clauses
+                                        behind them are left to clause_model.py
   collection_model.py --minima          compares the least numbers of gates with those that other ways of counting give
 
   --program PATH   the program that is run, in place of crates/kegbirun/out/kegbirun
@@ -30,7 +31,7 @@ import tempfile
 from collection_rules import PLACES, STARTER, Collection, Network, Question, Unknown
 from collection_rules import carried, classes, least, least_numbers, lifted, representative
 from collection_rules import network_of, number_bytes, record, record_bytes
-from command_model import PROGRAM, ROOT, STORED
+from command_model import CLAUSES, PROGRAM, ROOT, STORED
 
 # ---------------------------------------------------------------------------------------------------------------------
 # Scripts, runs and differences
@@ -550,11 +551,13 @@ def check_run(options, _folder):
     if len(names) != 2:
         sys.exit(__doc__)
     script = Script(options, os.path.join(os.path.dirname(names[0]), "data"))
-    lines = read_file(names[0]).split(b"\n")
+    commands, _, behind = read_file(names[0]).partition(CLAUSES)
+    lines = commands.split(b"\n")
     for line in lines if lines[-1] else lines[:-1]:
         script.add(line)
     got = read_file(names[1]).decode("utf-8", "replace").split("\n")
     ends = [] if got.pop() == "" else ["the last answer has no end of line"]
+    got = got[: len(script.wanted)] if behind else got
     if len(script.lines) != len(lines) - (not lines[-1]):
         ends.append("the script has orders whose answers the model does not know")
     return f"{len(script.wanted)} stored answers", script.differences(got) + ends

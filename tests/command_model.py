@@ -2,9 +2,9 @@
 """An independent model of the program's commands, and comparisons with it.
 
   command_model.py --write          writes the stored commands and answers of crates/kegbirun from the model, without those of the
-                                    collection, which stand behind them
-  command_model.py --check          compares the stored answers with the model's, up to those of the collection, which
-                                    collection_model.py checks
+                                    collection and on clauses, which stand behind them
+  command_model.py --check          compares the stored answers with the model's, up to those of the collection and on clauses,
+                                    which collection_model.py and clause_model.py check
   command_model.py --random N SEED  runs the built program on N random commands and compares each answer
   command_model.py --asked N SEED   the same for the listed questions and N random ones that are asked
 
@@ -25,6 +25,8 @@ import sys
 ROOT = os.path.dirname(os.path.dirname(os.path.abspath(__file__)))
 STORED = os.path.join(ROOT, "crates", "kegbirun")
 PROGRAM = os.path.join(STORED, "out", "kegbirun")
+# what begins the stored commands on clauses, which stand behind all others
+CLAUSES = b"\n# clauses\n"
 
 WORDS = {
     1: "more than four inputs",
