@@ -1,4 +1,5 @@
 mod Gates
 mod Places
+pub mod Spelled
 mod Whole
 pub mod Steps

@@ -1,53 +1,33 @@
 -- A record that is written is read back, whatever follows it.
-use Rattle.std.proofs.Common.{◌≡◌, ℕ, ◌+◌, ◌*◌, ◌/◌, ◌%◌, ◌^◌, ◌<◌, ◌≤◌, get_or, List, [], ◌∷◌, ◌++◌, length, take, drop, Ok, refl, sym, ap, ◌∙◌, arith, length-append}
+use Rattle.std.proofs.Common.{◌≡◌, ℕ, ◌+◌, ◌*◌, ◌/◌, ◌%◌, ◌^◌, ◌<◌, ◌≤◌, List, [], ◌∷◌, ◌++◌, length, take, drop, Ok, refl, sym, ap, ◌∙◌, arith}
 use Rattle.std.specs.List.{flat_map}
-use Rattle.std.proofs.Math.Seq.{get_or-append_seam}
-use Rattle.std.proofs.lemmas.Bool.{eq-eqb}
-use Rattle.std.proofs.lemmas.List.{take_at, take_all, drop_at}
+use Rattle.std.proofs.lemmas.List.{take_all, drop_at}
 use Rattle.mig.specs.declared.network.Gate.{Gate}
 use Rattle.mig.specs.declared.network.Network.{Network}
 use Rattle.mig.specs.declared.question.Question.{Question}
-use Rattle.mig.specs.Networks.{Net, size, net_of, network_of}
-use Rattle.mig_laws.proofs.Places.{same_network}
+use Rattle.mig.specs.Networks.{Net, size, net_of}
 use Rattle.records.specs.Reading.{body_at}
-use Rattle.records.specs.Records.{word, network_at, record_at, record_length, record_of, record_head, record_bytes, gate_codes}
+use Rattle.records.specs.Records.{word, record_at, record_length, record_of, record_head, record_bytes, network_bytes, gate_codes}
 use Rattle.records.specs.Parts.{part, parts_from}
 use Rattle.records.proofs.Steps.{record_first}
 use Rattle.records.proofs.Places.{content_placed}
-use Rattle.records.proofs.Gates.{codes_length, gates_spelled}
+use Rattle.records.proofs.Spelled.{codes_number, spelled_again}
 
 -- a number of two bytes is that of its bytes
 word_again : (n : ℕ) → n < 2 ^ 16 → word (n % 256) (n / 256 % 256) ≡ n
 word_again n below = omega arith
 
--- the codes of a network's gates, and its output's code
-abbrev network_codes : Net → List ℕ
-network_codes net = flat_map gate_codes net.gates ++ (net.output ∷ [])
-
-codes_number : (net : Net) → length (network_codes net) ≡ 3 * size net + 1
-codes_number net = omega (arith, codes_length net.gates, length-append (flat_map gate_codes net.gates) (net.output ∷ []))
-
--- the codes spell the network
-network_again : (net : Net) → size net ≤ 7 → network_at (size net) (network_codes net) ≡ network_of net
-network_again net few =
-    let k = codes_length net.gates in
-    let front : take (3 * size net) (network_codes net) ≡ flat_map gate_codes net.gates =
-    take_at (flat_map gate_codes net.gates) (net.output ∷ []) (3 * size net) k in
-    let last : get_or (network_codes net) (3 * size net) 0 ≡ net.output =
-    rw (← k) (get_or-append_seam (flat_map gate_codes net.gates) net.output [] 0) in
-    same_network refl (rw front (gates_spelled 7 net.gates few)) last
-
 -- the body of a record, and its kind before it
 abbrev body_of : Question → ℕ → Net → List ℕ
 body_of q lower net =
-    q.inputs ∷ (q.table % 256 ∷ (q.table / 256 % 256 ∷ (q.limits.depth ∷ (q.limits.fan_out ∷ (lower ∷ (size net ∷ network_codes net))))))
+    q.inputs ∷ (q.table % 256 ∷ (q.table / 256 % 256 ∷ (q.limits.depth ∷ (q.limits.fan_out ∷ (lower ∷ network_bytes net)))))
 
 abbrev content_of : Question → ℕ → Net → List ℕ
 content_of q lower net = 1 ∷ (0 ∷ body_of q lower net)
 
 body_again : (q : Question) (lower : ℕ) (net : Net) → q.table < 2 ^ 16 → size net ≤ 7 → body_at (body_of q lower net) ≡ Ok (record_of q net)
 body_again q lower net below few =
-    rw (eq-eqb _ _ (codes_number net), word_again q.table below, network_again net few) refl
+    rw (word_again q.table below, spelled_again net few) refl
 
 content_length : (q : Question) (lower : ℕ) (net : Net) → length (content_of q lower net) ≡ 10 + 3 * size net
 content_length q lower net = omega (arith, codes_number net)

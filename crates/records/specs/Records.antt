@@ -73,6 +73,10 @@ record_of q net = record { question = q; network = network_of net }
 abbrev pub gate_codes : Gate → List ℕ
 gate_codes g = g.first ∷ (g.second ∷ (g.third ∷ []))
 
+-- the bytes of a network: the number of gates, three codes for each, and the output's code
+abbrev pub network_bytes : Net → List ℕ
+network_bytes net = size net ∷ (flat_map gate_codes net.gates ++ (net.output ∷ []))
+
 -- what stands before the codes of k gates: the length, the kind 1, and the numbers of the body
 abbrev pub record_head : Question → ℕ → ℕ → List ℕ
 record_head q lower k =

@@ -8,5 +8,5 @@ mod writing;
 
 pub use faults::layer;
 pub use reader::{Part, Reader};
-pub use reading::Record;
+pub use reading::{Record, read_network};
 pub use writing::encode;

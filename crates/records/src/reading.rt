@@ -1,7 +1,8 @@
 // The record at the head of some bytes.
-ghost use Rattle.std.specs.Prelude.{◌≡◌, drop, MatchResult, Ok, Err};
-ghost use Rattle.records.specs.Records.{record_at, record_length, first_gate, gates_from};
-ghost use Rattle.records.specs.Reading.{content_at, body_at};
+ghost use Rattle.std.specs.Prelude.{◌≡◌, ◌≤◌, drop, MatchOption, MatchResult, Ok, Err};
+ghost use Rattle.mig.specs.Networks.{Net, net_of, network_of, size};
+ghost use Rattle.records.specs.Records.{record_at, record_length, first_gate, gates_from, network_bytes};
+ghost use Rattle.records.specs.Reading.{content_at, body_at, network_spelled};
 
 use mig::{Gate, Limits, Network, Question, Refusal};
 
@@ -46,27 +47,36 @@ fn gates_from(codes: &[u8]) -> [Gate; 7]
     gates
 }
 
+// The network that bytes spell: its number of gates, three codes for each, and the output's code.
+// Of a network of more than seven gates the first seven stand, with the number of all.
+pub fn read_network(bytes: &[u8]) -> Option<Network>
+    ensures answer { result ≡ network_spelled bytes.now }
+    ensures reads_the_bytes_of_a_network { (net : Net) → size net ≤ 7 → bytes.now ≡ network_bytes net → result ≡ Some (network_of net) }
+    ensures read_from_its_bytes { MatchOption result (Unit {0}) (λ network. network.count ≤ 7 → bytes.now ≡ network_bytes (net_of network)) }
+{
+    let [count, codes @ .., output] = bytes else {
+        return None;
+    };
+    if codes.len() != 3 * usize::from(*count) {
+        return None;
+    }
+    Some(Network {
+        count: *count,
+        gates: gates_from(codes),
+        output: *output,
+    })
+}
+
 // The record of a body.
 fn read_body(body: &[u8]) -> Result<Record, Refusal>
     ensures { result ≡ body_at body.now }
 {
-    let [
-        inputs,
-        low,
-        high,
-        depth,
-        fan_out,
-        _,
-        count,
-        codes @ ..,
-        output,
-    ] = body
-    else {
+    let [inputs, low, high, depth, fan_out, _, network @ ..] = body else {
         return Err(Refusal::WrongRecordLength);
     };
-    if codes.len() != 3 * usize::from(*count) {
+    let Some(network) = read_network(network) else {
         return Err(Refusal::WrongRecordLength);
-    }
+    };
     Ok(Record {
         question: Question {
             inputs: *inputs,
@@ -76,11 +86,7 @@ fn read_body(body: &[u8]) -> Result<Record, Refusal>
                 fan_out: *fan_out,
             },
         },
-        network: Network {
-            count: *count,
-            gates: gates_from(codes),
-            output: *output,
-        },
+        network,
     })
 }
 
