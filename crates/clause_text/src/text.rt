@@ -1,7 +1,7 @@
 // The text of the clauses of a question and a number of gates.
 ghost use Rattle.std.specs.Prelude.{◌≡◌, length, IfOk};
 ghost use Rattle.mig.specs.Rules.{unless_refused, refused_by};
-ghost use Rattle.cnf.specs.Numbers.{question_variables, question_clauses, NumberedInOrder, SatisfiableExactlyWhenMet};
+ghost use Rattle.cnf.specs.Numbers.{question_variables, question_clauses, NumberedInOrder, SatisfiableExactlyWhenMet, LiteralsNameVariables};
 ghost use Rattle.cnf.specs.Text.{clauses_text, question_text};
 ghost use Rattle.cnf.specs.Rules.{clauses_refusal, text_refusal, text_answer, buffer_after};
 ghost use Rattle.clause_text.specs.Writing.{Writes};
@@ -72,6 +72,7 @@ pub fn clause_text(question: &Question, gates: u8, buffer: &mut [u8]) -> Result<
     ensures bytes_are_the_text_and_those_behind_stay { buffer.new ≡ buffer_after (text_refusal question.now gates (length buffer.old)) (question_text question.now gates) buffer.old }
     ensures satisfiable_exactly_when_met { IfOk result (λ _. SatisfiableExactlyWhenMet question.now gates) }
     ensures variables_numbered_in_order { NumberedInOrder question.now gates }
+    ensures literals_name_variables { IfOk result (λ _. LiteralsNameVariables question.now gates) }
 {
     let size = text_size(question, gates)?;
     if buffer.len() < size.bytes {

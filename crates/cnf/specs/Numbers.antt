@@ -1,5 +1,5 @@
 -- The numbers of the variables, the clauses by these numbers, and what satisfies them.
-use Rattle.std.specs.Prelude.{◌≡◌, ℕ, zero, suc, ◌+◌, ◌-◌, ◌*◌, ◌^◌, ◌<◌, ◌≤◌, Bool, true, false, cond, not, List, [], ◌∷◌, ◌++◌, map, length, ◌==◌, slice_index_or}
+use Rattle.std.specs.Prelude.{◌≡◌, ℕ, zero, suc, ◌+◌, ◌-◌, ◌*◌, ◌^◌, ◌<◌, ◌≤◌, Bool, true, false, cond, not, List, [], ◌∷◌, ◌++◌, map, length, All, ◌==◌, slice_index_or}
 use Rattle.std.specs.List.{list_all, list_any}
 use Rattle.mig.specs.declared.question.Question.{Question}
 use Rattle.mig.specs.Networks.{Net, size}
@@ -115,6 +115,11 @@ RunsFrom g (v ∷ vs) x y = (g v ≡ x) × RunsFrom g vs (suc x) y
 -- the variables have the numbers 1, 2, 3 and so on, in their order
 abbrev pub NumberedInOrder : Question → ℕ → Type 0
 NumberedInOrder q r = RunsFrom (question_number q r) (question_variables q r) 1 (1 + length (question_variables q r))
+
+-- each literal of each clause is of a variable of the question and r gates: its number is one of these
+abbrev pub LiteralsNameVariables : Question → ℕ → Type 0
+LiteralsNameVariables q r =
+    All (All (λ (l : Literal). (1 ≤ l.variable) × (l.variable ≤ length (question_variables q r)))) (question_clauses q r)
 
 -- the clauses have a satisfying assignment exactly when a network of at most r gates meets the question
 abbrev pub SatisfiableExactlyWhenMet : Question → ℕ → Type 0

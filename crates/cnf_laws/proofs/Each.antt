@@ -14,12 +14,6 @@ each_push a (suc m) f =
     ap (λ xs. f a ++ xs) (each_push (suc a) m f) ∙ sym (append_assoc (f a) (each (suc a) m f) (f (suc a + m)))
     ∙ ap (λ k. (f a ++ each (suc a) m f) ++ f k) e
 
-pub each_more : {X : Type 0} (a x : ℕ) (f : ℕ → List X) → a ≤ x → each a (suc x - a) f ≡ each a (x - a) f ++ f x
-each_more a x f l =
-    let p : suc x - a ≡ suc (x - a) = omega arith in
-    let q : a + (x - a) ≡ x = omega arith in
-    ap (λ m. each a m f) p ∙ each_push a (x - a) f ∙ ap (λ k. each a (x - a) f ++ f k) q
-
 pub total_more : (a x : ℕ) (g : ℕ → ℕ) → a ≤ x → total a (suc x - a) g ≡ total a (x - a) g + g x
 unfolding total
 total_more a x g l =

@@ -11,7 +11,7 @@ use Rattle.cnf.specs.declared.literal.Literal.{Literal}
 use Rattle.cnf.specs.Variables.{Var, Q, NamedLiteral, pos, neg, NamedClause}
 use Rattle.cnf.specs.Clauses.{clauses_of}
 use Rattle.cnf.specs.Meaning.{Assignment, some_holds, Satisfies, padded, meaning}
-use Rattle.cnf.specs.Numbers.{numbered_literal, numbered, question_variables, question_number, question_clauses, bit_of, clause_holds, all_hold, told, read_bits, SatisfiableExactlyWhenMet}
+use Rattle.cnf.specs.Numbers.{numbered_literal, numbered, question_variables, question_number, question_clauses, bit_of, clause_holds, all_hold, told, read_bits, SatisfiableExactlyWhenMet, LiteralsNameVariables}
 use Rattle.cnf_laws.proofs.Numbering.{number_at}
 use Rattle.cnf_laws.proofs.Listed.{variable_of, variables_listed}
 use Rattle.cnf_laws.proofs.ReadBack.{length-read_gates}
@@ -104,9 +104,8 @@ satisfiable_exactly_when_met q r some = (
 )
 
 -- each variable of the clauses by number is one of those that are numbered
-pub clause_variables_numbered : (q : Question) (r : ℕ) → 1 ≤ q.limits.fan_out
-    → All (All (λ (l : Literal). (1 ≤ l.variable) × (l.variable ≤ length (question_variables q r)))) (question_clauses q r)
-clause_variables_numbered q r some =
+pub literals_name_variables : (q : Question) (r : ℕ) → 1 ≤ q.limits.fan_out → LiteralsNameVariables q r
+literals_name_variables q r some =
     let cs = clauses_of q.inputs q.table q.limits.depth q.limits.fan_out r in
     let listed = λ (x : NamedLiteral). Contains (question_variables q r) (variable_of x) in
     let fits = λ (x : NamedLiteral). Fits (numbered_literal (question_number q r) x) in

@@ -4,7 +4,7 @@ use Rattle.cnf.specs.Text.{clauses_text, head_text}
 use Rattle.clause_text.specs.Writing.{Writes}
 use Rattle.std.proofs.lemmas.Result.{IfOk-weaker}
 use Rattle.cnf_laws.proofs.Numbering.{numbered_in_order}
-use Rattle.cnf_laws.proofs.Numbered.{satisfiable_exactly_when_met}
+use Rattle.cnf_laws.proofs.Numbered.{satisfiable_exactly_when_met, literals_name_variables}
 use Rattle.clause_text.proofs.Bounds.{within_bounds}
 use Rattle.clause_text.proofs.Texts.{text_written, text_answered}
 use Rattle.clause_text.proofs.text.clause_text.Goals as goal
@@ -27,4 +27,5 @@ returns c =
       bytes_are_the_text_and_those_behind_stay = a.1;
       satisfiable_exactly_when_met = IfOk-weaker c.write_clauses.result _ _ (λ _ _. satisfiable_exactly_when_met q r (within_bounds q r passed).0.some_fan_out) c.write_clauses.ensures.written;
       variables_numbered_in_order = numbered_in_order q r;
+      literals_name_variables = IfOk-weaker c.write_clauses.result _ _ (λ _ _. literals_name_variables q r (within_bounds q r passed).0.some_fan_out) c.write_clauses.ensures.written;
     }
