@@ -1,0 +1,4 @@
+pub mod Satisfy
+pub mod Exact
+pub mod Listed
+pub mod Numbered
