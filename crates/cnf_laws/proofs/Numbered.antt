@@ -1,7 +1,7 @@
 -- The clauses by number: what satisfies them, and the network that it tells.
-use Rattle.std.proofs.Common.{◌≡◌, ℕ, suc, ◌+◌, ◌-◌, ◌≤◌, Bool, true, false, not, ◌||◌, List, [], ◌∷◌, length, map, get_or, All, refl, sym, ap, ◌∙◌, arith}
+use Rattle.std.proofs.Common.{◌≡◌, ℕ, suc, ◌+◌, ◌-◌, ◌≤◌, Bool, true, false, not, ◌||◌, List, [], ◌∷◌, length, map, get_or, All, refl, sym, ap, ◌∙◌, Decides, arith}
 use Rattle.std.specs.List.{Contains}
-use Rattle.std.proofs.lemmas.Bool.{and_from, and_parts}
+use Rattle.std.proofs.lemmas.Bool.Decides.{Decides-and}
 use Rattle.std.proofs.lemmas.List.{get_or_default, get_or-map, length-map}
 use Rattle.std.proofs.lemmas.List.Elements.{All-nil, All-cons, All-head, All-tail, All-map, All-weaker}
 use Rattle.mig.specs.declared.question.Question.{Question}
@@ -20,7 +20,7 @@ use Rattle.cnf_laws.proofs.Meanings.{meaning_satisfies}
 use Rattle.cnf_laws.proofs.Padded.{size_padded, meets_padded}
 
 -- bits tell of the variable of a literal what the assignment says
-abbrev Tells : (Var → ℕ) → List Bool → Assignment → NamedLiteral → Type 0
+abbrev pub Tells : (Var → ℕ) → List Bool → Assignment → NamedLiteral → Type 0
 Tells g bits s l = bit_of bits (g (variable_of l)) ≡ s (variable_of l)
 
 module _ (g : Var → ℕ) (bits : List Bool) (s : Assignment) where
@@ -33,28 +33,14 @@ module _ (g : Var → ℕ) (bits : List Bool) (s : Assignment) where
       ap (λ x. not x || clause_holds bits (map (numbered_literal g) c)) (All-head (Tells g bits s) (neg v) c h)
       ∙ ap (λ y. not (s v) || y) (same_clause c (All-tail (Tells g bits s) (neg v) c h))
 
-  hold_from_satisfies : (cs : List NamedClause) → All (All (Tells g bits s)) cs → Satisfies s cs → all_hold bits (numbered g cs) ≡ true
+  -- where bits tell what the assignment says, they satisfy the clauses by number exactly if it satisfies the clauses
+  pub decides_clauses : (cs : List NamedClause) → All (All (Tells g bits s)) cs → Decides (all_hold bits (numbered g cs)) (Satisfies s cs)
   unfolding Satisfies numbered
-  hold_from_satisfies [] h k = refl
-  hold_from_satisfies (c ∷ cs) h k =
-      and_from _ _ (same_clause c (All-head (All (Tells g bits s)) c cs h) ∙ k.0) (hold_from_satisfies cs (All-tail (All (Tells g bits s)) c cs h) k.1)
-
--- bits that satisfy the clauses by number satisfy them as they tell
-satisfies_from_hold : (g : Var → ℕ) (bits : List Bool) (cs : List NamedClause) → all_hold bits (numbered g cs) ≡ true → Satisfies (λ v. bit_of bits (g v)) cs
-unfolding Satisfies numbered
-satisfies_from_hold g bits [] h = tt
-satisfies_from_hold g bits (c ∷ cs) h =
-    let w = and_parts (clause_holds bits (map (numbered_literal g) c)) (all_hold bits (numbered g cs)) h in
-    (sym (same_clause g bits (λ v. bit_of bits (g v)) c (λ k d l. refl)) ∙ w.0, satisfies_from_hold g bits cs w.1)
-
--- what holds of the literals by number holds of the clauses by number
-numbered_have : (g : Var → ℕ) (P : Literal → Type 0) (cs : List NamedClause) → All (All (λ l. P (numbered_literal g l))) cs → All (All P) (numbered g cs)
-unfolding numbered
-numbered_have g P [] h = All-nil (All P)
-numbered_have g P (c ∷ cs) h =
-    All-cons (All P) (map (numbered_literal g) c) (numbered g cs)
-    (All-map P (numbered_literal g) c (All-head (All (λ l. P (numbered_literal g l))) c cs h))
-    (numbered_have g P cs (All-tail (All (λ l. P (numbered_literal g l))) c cs h))
+  decides_clauses [] h = (λ _. tt, λ _. refl)
+  decides_clauses (c ∷ cs) h =
+      let e = same_clause c (All-head (All (Tells g bits s)) c cs h) in
+      Decides-and (clause_holds bits (map (numbered_literal g) c)) (all_hold bits (numbered g cs)) (λ x. sym e ∙ x, λ x. e ∙ x)
+      (decides_clauses cs (All-tail (All (Tells g bits s)) c cs h))
 
 -- a listed variable's number is its place, from 1 on
 pub number_of_listed : (q : Question) (r : ℕ) (v : Var) → (h : Contains (question_variables q r) v) → question_number q r v ≡ 1 + h.0
@@ -75,7 +61,8 @@ pub reads_bits : (q : Question) (r : ℕ) (bits : List Bool) → 1 ≤ q.limits.
     → (size (read_bits q r bits) ≡ r) × Meets q (read_bits q r bits)
 reads_bits q r bits some h = (
   length-read_gates (told q r bits) (suc q.inputs) r,
-  read_net_meets q r (told q r bits) some (satisfies_from_hold (question_number q r) bits _ h),
+  read_net_meets q r (told q r bits) some
+      ((decides_clauses (question_number q r) bits (told q r bits) (clauses_of q.inputs q.table q.limits.depth q.limits.fan_out r) (λ i c l k x u. refl)).0 h),
 )
 
 -- the bits of a network that meets the question, padded to r gates, satisfy the clauses
@@ -87,8 +74,8 @@ writes_bits q r net some l m =
     let bits = map s (question_variables q r) in
     let cs = clauses_of q.inputs q.table q.limits.depth q.limits.fan_out r in
     let listed = λ (x : NamedLiteral). Contains (question_variables q r) (variable_of x) in
-    hold_from_satisfies g bits s cs
-    (All-weaker (All listed) (All (Tells g bits s)) (All-weaker listed (Tells g bits s) (λ x. told_again q r s (variable_of x))) cs (variables_listed q r some))
+    (decides_clauses g bits s cs
+    (All-weaker (All listed) (All (Tells g bits s)) (All-weaker listed (Tells g bits s) (λ x. told_again q r s (variable_of x))) cs (variables_listed q r some))).1
     (meaning_satisfies q r (padded r net) some (size_padded r net l) (meets_padded q r net m))
 
 pub satisfiable_exactly_when_met : (q : Question) (r : ℕ) → 1 ≤ q.limits.fan_out → SatisfiableExactlyWhenMet q r
@@ -103,18 +90,27 @@ satisfiable_exactly_when_met q r some = (
   ),
 )
 
+-- the number of a literal's variable is that of a variable of the question
+abbrev pub NamesVariable : Question → ℕ → Literal → Type 0
+NamesVariable q r l = (1 ≤ l.variable) × (l.variable ≤ length (question_variables q r))
+
+names_by_number : (q : Question) (r : ℕ) (x : NamedLiteral) → Contains (question_variables q r) (variable_of x) → NamesVariable q r (numbered_literal (question_number q r) x)
+names_by_number q r (pos v) h = let e = number_of_listed q r v h in (omega arith, omega (arith, h.1))
+names_by_number q r (neg v) h = let e = number_of_listed q r v h in (omega arith, omega (arith, h.1))
+
+-- if the variables of the literals stand in the list, the numbers are those of variables of the question
+pub name_by_number : (q : Question) (r : ℕ) (cs : List NamedClause) → All (All (λ (x : NamedLiteral). Contains (question_variables q r) (variable_of x))) cs
+    → All (All (NamesVariable q r)) (numbered (question_number q r) cs)
+unfolding numbered
+name_by_number q r [] h = All-nil (All (NamesVariable q r))
+name_by_number q r (c ∷ cs) h =
+    let g = question_number q r in
+    let listed = λ (x : NamedLiteral). Contains (question_variables q r) (variable_of x) in
+    All-cons (All (NamesVariable q r)) (map (numbered_literal g) c) (numbered g cs)
+    (All-map (NamesVariable q r) (numbered_literal g) c (All-weaker listed (λ x. NamesVariable q r (numbered_literal g x)) (names_by_number q r) c (All-head (All listed) c cs h)))
+    (name_by_number q r cs (All-tail (All listed) c cs h))
+
 -- each variable of the clauses by number is one of those that are numbered
 pub literals_name_variables : (q : Question) (r : ℕ) → 1 ≤ q.limits.fan_out → LiteralsNameVariables q r
 literals_name_variables q r some =
-    let cs = clauses_of q.inputs q.table q.limits.depth q.limits.fan_out r in
-    let listed = λ (x : NamedLiteral). Contains (question_variables q r) (variable_of x) in
-    let fits = λ (x : NamedLiteral). Fits (numbered_literal (question_number q r) x) in
-    numbered_have (question_number q r) Fits cs
-    (All-weaker (All listed) (All fits) (All-weaker listed fits fits_number) cs (variables_listed q r some))
-  where
-    Fits : Literal → Type 0
-    Fits l = (1 ≤ l.variable) × (l.variable ≤ length (question_variables q r))
-
-    fits_number : (x : NamedLiteral) → Contains (question_variables q r) (variable_of x) → Fits (numbered_literal (question_number q r) x)
-    fits_number (pos v) h = let e = number_of_listed q r v h in (omega arith, omega (arith, h.1))
-    fits_number (neg v) h = let e = number_of_listed q r v h in (omega arith, omega (arith, h.1))
+    name_by_number q r (clauses_of q.inputs q.table q.limits.depth q.limits.fan_out r) (variables_listed q r some)
