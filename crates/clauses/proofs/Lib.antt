@@ -1,2 +1,2 @@
-mod Takings
+pub mod Takings
 mod Uses

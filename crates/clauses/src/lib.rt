@@ -11,4 +11,5 @@ mod output;
 mod values;
 
 pub use generator::{generate, variable_count};
+pub use literals::{neg, pos};
 pub use numbering::Numbering;

@@ -130,7 +130,7 @@ impl Numbering {
 
     // The number of B(i, t): the value of gate i in row t.
     #[tactic(auto, unfolding(cnf::specs::Numbers::number))]
-    pub(crate) fn gate_value(&self, gate: u8, row: u8) -> u32
+    pub fn gate_value(&self, gate: u8, row: u8) -> u32
         ensures { result ≡ numbered_by self.now (B gate row) }
     {
         self.gate_values + gates_before(self.inputs, gate) * u32::from(self.rows) + u32::from(row)

@@ -1,0 +1,10 @@
+use Rattle.std.proofs.Common.{suc, ◌-◌, [], ◌∷◌}
+use Rattle.cnf.specs.Variables.{S, neg, each}
+use Rattle.cnf.specs.Numbers.{numbered}
+use Rattle.clauses.specs.Numbering.{numbered_by}
+use Rattle.exact_clauses.proofs.fan_ins.buffers_copy_gates.Given as goal
+
+-- the gates so far
+abbrev pub invariant-loop-gate : goal.invariant-loop-gate
+invariant-loop-gate g l =
+    g.S.ClauseSink.took l.initial.sink (numbered (numbered_by l.numbering) (each (suc l.numbering.inputs) (l.gate - suc l.numbering.inputs) (λ i. each 0 (suc l.numbering.inputs) (λ j. (neg (S i 1 0) ∷ neg (S i 2 0) ∷ neg (S i 3 j) ∷ []) ∷ [])))) l.sink
