@@ -1,9 +1,9 @@
 -- Clauses: learning from marked variables, one clause more, fewer clauses.
-use Rattle.std.proofs.Common.{◌≡◌, ◌≢◌, ℕ, zero, suc, ◌+◌, ◌/◌, ◌%◌, ◌≤◌, ◌<◌, true, false, eqb, inl, inr, ⊎_elim, List, length, get_or, set, sym, ap, ◌∙◌, subst, arith, length-set, get_or-set_same, get_or-set_other, add-one}
+use Rattle.std.proofs.Common.{◌≡◌, ◌*◌, ◌≢◌, ℕ, zero, suc, ◌+◌, ◌/◌, ◌%◌, ◌≤◌, ◌<◌, true, false, eqb, inl, inr, ⊎_elim, List, length, get_or, set, sym, ap, ◌∙◌, subst, arith, length-set, get_or-set_same, get_or-set_other, add-one}
 use Rattle.std.proofs.lemmas.Bool.{cases_eq, cases_lt, cases_Bool}
 use Rattle.std.proofs.lemmas.Bool.Decides.{nat_tests}
 use Rattle.std.proofs.lemmas.List.{get_or_past}
-use Rattle.sat_laws.specs.Formulas.{bit, Assignment, Formula, Holds, SomeHolds, ClausesHold, IsModel, Implied, WellFormed, SameClauses}
+use Rattle.sat_laws.specs.Formulas.{literal_at, bit, Assignment, Formula, Holds, SomeHolds, ClausesHold, IsModel, Implied, WellFormed, SameClauses}
 use Rattle.sat_laws.specs.Trails.{IsTrueLiteral, IsFalseLiteral}
 use Rattle.sat_laws.specs.Steps.{Marked, Covered, Apart, Gathered}
 use Rattle.sat_laws.specs.Runs.{assignment_of}
@@ -17,11 +17,11 @@ differs : (values : List ℕ) (m : Assignment) (q : ℕ) → IsFalseLiteral valu
 differs values m q f h = (omega arith, omega arith)
 
 pub apart_first : (F : Formula) (ws values marks marks′ : List ℕ) (a b l : ℕ) → ((m : Assignment) → IsModel F m → SomeHolds m ws a b)
-    → ((j : ℕ) → a ≤ j → j < b → get_or ws j 0 ≢ l) → Marked ws values a b l marks marks′ → Apart F values marks′
+    → ((j : ℕ) → a ≤ j → j < b → literal_at ws j ≢ l) → Marked ws values a b l marks marks′ → Apart F values marks′
 apart_first F ws values marks marks′ a b l c ne k m mm =
     let x = c m mm in
     ⊎_elim (λ e. absurd (ne (x.0) (x.1) (x.2) e))
-    (λ f. let d = differs values m _ (f.0) (x.3) in (get_or ws (x.0) 0 / 2, f.1, d.0, d.1))
+    (λ f. let d = differs values m _ (f.0) (x.3) in (literal_at ws (x.0) / 2, f.1, d.0, d.1))
     (k.new (x.0) (x.1) (x.2))
 
 pub apart_more : (F : Formula) (ws values marks marks′ : List ℕ) (a b l : ℕ) → ((m : Assignment) → IsModel F m → SomeHolds m ws a b)
@@ -31,11 +31,11 @@ apart_more F ws values marks marks′ a b l c t ap1 k m mm =
     let x = c m mm in
     ⊎_elim
     (λ (e : u.0 ≡ l / 2). ⊎_elim
-    (λ (q : get_or ws (x.0) 0 ≡ l).
+    (λ (q : literal_at ws (x.0) ≡ l).
     let h : Holds m l = subst (Holds m) q (x.3) in
     let w : get_or values (l / 2) 0 + bit (m (l / 2)) ≡ 2 = subst (λ y. get_or values y 0 + bit (m y) ≡ 2) e (u.3) in
     absurd (omega arith))
-    (λ f. let d = differs values m _ (f.0) (x.3) in (get_or ws (x.0) 0 / 2, f.1, d.0, d.1))
+    (λ f. let d = differs values m _ (f.0) (x.3) in (literal_at ws (x.0) / 2, f.1, d.0, d.1))
     (k.new (x.0) (x.1) (x.2)))
     (λ (ne : u.0 ≡ l / 2 → ⊥). (u.0, k.old (u.0) (subst (λ y. 0 < y) (sym (get_or-set_other marks (l / 2) (u.0) 0 0 ne)) (u.1)), u.2, u.3))
     (cases_eq (u.0) (l / 2))
@@ -46,11 +46,11 @@ gathered_holds F ws values marks a ws′ b ap1 g m mm =
     let u = ap1 m mm in
     let x = g.each (u.0) (in_range values (u.0) (u.2)) (u.1) (u.2) in
     let bl : bit (m (u.0)) ≤ 1 = bit_le (m (u.0)) in
-    let q : get_or ws′ (x.0) 0 / 2 ≡ u.0 = omega (arith, x.3, u.3) in
-    let r : bit (m (u.0)) ≡ get_or ws′ (x.0) 0 % 2 = omega (arith, x.3, u.3) in
+    let q : literal_at ws′ (x.0) / 2 ≡ u.0 = omega (arith, x.3, u.3) in
+    let r : bit (m (u.0)) ≡ literal_at ws′ (x.0) % 2 = omega (arith, x.3, u.3) in
     (x.0, x.1, x.2, rw q r)
 
-module _ (ws ends : List ℕ) (k n : ℕ) (ws′ : List ℕ) (sh : WellFormed ws ends k n) (len : length ws′ ≡ length ws) (same : (j : ℕ) → j < get_or ends k 0 → get_or ws′ j 0 ≡ get_or ws j 0) where
+module _ (ws ends : List ℕ) (k n : ℕ) (ws′ : List ℕ) (sh : WellFormed ws ends k n) (len : length ws′ ≡ length ws) (same : (j : ℕ) → j < get_or ends k 0 → literal_at ws′ j ≡ literal_at ws j) where
   pub well_formed_same : WellFormed ws′ ends k n
   well_formed_same = record {
     table = sh.table;
@@ -64,8 +64,8 @@ module _ (ws ends : List ℕ) (k n : ℕ) (ws′ : List ℕ) (sh : WellFormed ws
       let x = hd c h in
       (x.0, x.1, x.2, subst (Holds m) (sym (same (x.0) (omega (arith, x.2, sh.rising (c + 1) k (omega arith) (omega arith))))) (x.3))
 
-  module _ (b : ℕ) (table : k + 1 < length ends) (ge : get_or ends k 0 ≤ b) (le : b ≤ length ws′)
-      (small : (j : ℕ) → get_or ends k 0 ≤ j → j < b → get_or ws′ j 0 / 2 < n) where
+  module _ (b : ℕ) (table : k + 1 < length ends) (ge : get_or ends k 0 ≤ b) (le : b ≤ 2 * length ws′)
+      (small : (j : ℕ) → get_or ends k 0 ≤ j → j < b → literal_at ws′ j / 2 < n) where
     old : (c : ℕ) → c ≤ k → get_or (set ends (k + 1) b) c 0 ≡ get_or ends c 0
     old c h = get_or-set_other ends (k + 1) c b 0 (omega arith)
 

@@ -1,6 +1,6 @@
 -- The trail grown by what follows from clauses.
 use Rattle.std.proofs.Common.{◌≡◌, ℕ, ◌+◌, ◌/◌, ◌<◌, List, length, get_or, arith}
-use Rattle.sat_laws.specs.Formulas.{WellFormed}
+use Rattle.sat_laws.specs.Formulas.{literal_at, WellFormed}
 use Rattle.sat_laws.specs.Trails.{Consistent}
 use Rattle.sat_laws.specs.Steps.{Grown}
 use Rattle.sat_laws.proofs.Trails.{has_room}
@@ -15,7 +15,7 @@ grown_trans e g h = record {
 }
 
 pub open_room : (ws ends : List ℕ) (k : ℕ) (values trail kinds : List ℕ) (top : ℕ) → WellFormed ws ends k (length values) → Consistent values trail kinds top → (c : ℕ) → c < k
-    → (r : ℕ) → r < get_or ends (c + 1) 0 → get_or values (get_or ws r 0 / 2) 0 ≡ 0 → (get_or ws r 0 / 2 < length values) × (top < length values)
+    → (r : ℕ) → r < get_or ends (c + 1) 0 → get_or values (literal_at ws r / 2) 0 ≡ 0 → (literal_at ws r / 2 < length values) × (top < length values)
 open_room ws ends k values trail kinds top sh b c h r lt free =
-    let lv : get_or ws r 0 / 2 < length values = sh.small r (omega (arith, sh.rising (c + 1) k (omega arith) (omega arith))) in
+    let lv : literal_at ws r / 2 < length values = sh.small r (omega (arith, sh.rising (c + 1) k (omega arith) (omega arith))) in
     (lv, has_room values trail kinds top _ b lv free)

@@ -1,3 +1,4 @@
+pub mod Literals
 pub mod Trails
 pub mod Weights
 pub mod Clauses

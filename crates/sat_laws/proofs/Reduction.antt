@@ -1,6 +1,6 @@
 -- Clauses moved down over those that are dropped.
-use Rattle.std.proofs.Common.{◌≡◌, ℕ, ◌+◌, ◌-◌, ◌/◌, ◌≤◌, ◌<◌, List, length, get_or, set, sym, refl, ap, ◌∙◌, subst, arith, get_or-set_same, get_or-set_other}
-use Rattle.sat_laws.specs.Formulas.{Holds, WellFormed}
+use Rattle.std.proofs.Common.{◌≡◌, ◌*◌, ℕ, ◌+◌, ◌-◌, ◌/◌, ◌≤◌, ◌<◌, List, length, get_or, set, sym, refl, ap, ◌∙◌, subst, arith, get_or-set_same, get_or-set_other}
+use Rattle.sat_laws.specs.Formulas.{literal_at, Holds, WellFormed}
 use Rattle.sat_laws.specs.Steps.{MovedDown, Reducing}
 use Rattle.sat_laws.proofs.Clauses.{well_formed_fewer, implied_fewer, well_formed_more, hold_more, kept_more, kept_fewer, kept_trans}
 
@@ -26,7 +26,7 @@ module _ (ws₀ ends₀ : List ℕ) (k₀ k n : ℕ) (ws ends : List ℕ) (kept_
   }
 
   module _ (ws′ : List ℕ) (b q : ℕ) (eb : b ≡ get_or ends (c + 1) 0) (eq : q ≡ get_or ends kept_count 0 + (b - s)) (len : length ws′ ≡ length ws) (table : kept_count + 1 < length ends)
-      (sl : MovedDown ws s b (get_or ends kept_count 0) ws′) (le : q ≤ length ws′) where
+      (sl : MovedDown ws s b (get_or ends kept_count 0) ws′) (le : q ≤ 2 * length ws′) where
     e0 : b ≡ get_or ends₀ (c + 1) 0
     e0 = eb ∙ p.later (c + 1) (omega arith)
 
@@ -36,18 +36,18 @@ module _ (ws₀ ends₀ : List ℕ) (k₀ k n : ℕ) (ws ends : List ℕ) (kept_
     bk : b ≤ get_or ends₀ k 0
     bk = omega (arith, e0, sh0.rising (c + 1) k (omega arith) (omega arith))
 
-    same : (j : ℕ) → j < get_or ends kept_count 0 → get_or ws′ j 0 ≡ get_or ws j 0
+    same : (j : ℕ) → j < get_or ends kept_count 0 → literal_at ws′ j ≡ literal_at ws j
     same j h = sl.low j h
 
     -- a place of the clause where it was moved to, as it was
-    was : (i : ℕ) → s + i < b → get_or ws′ (get_or ends kept_count 0 + i) 0 ≡ get_or ws₀ (s + i) 0
+    was : (i : ℕ) → s + i < b → literal_at ws′ (get_or ends kept_count 0 + i) ≡ literal_at ws₀ (s + i)
     was i h = sl.moved i h ∙ p.rest (s + i) (omega arith)
 
-    small : (j : ℕ) → get_or ends kept_count 0 ≤ j → j < q → get_or ws′ j 0 / 2 < n
+    small : (j : ℕ) → get_or ends kept_count 0 ≤ j → j < q → literal_at ws′ j / 2 < n
     small j h g =
         let i : ℕ = j - get_or ends kept_count 0 in
         let r : get_or ends kept_count 0 + i ≡ j = omega arith in
-        let w : get_or ws′ j 0 ≡ get_or ws₀ (s + i) 0 = subst (λ y. get_or ws′ y 0 ≡ get_or ws₀ (s + i) 0) r (was i (omega (arith, sb))) in
+        let w : literal_at ws′ j ≡ literal_at ws₀ (s + i) = subst (λ y. literal_at ws′ y ≡ literal_at ws₀ (s + i)) r (was i (omega (arith, sb))) in
         omega (arith, sh0.small (s + i) (omega (arith, bk, sb)))
 
     pub reduce_keep : Reducing ws₀ ends₀ k₀ k n ws′ (set ends (kept_count + 1) q) (kept_count + 1) (c + 1) b
@@ -64,7 +64,7 @@ module _ (ws₀ ends₀ : List ℕ) (k₀ k n : ℕ) (ws ends : List ℕ) (kept_
               get_or ends kept_count 0 + i,
               omega arith,
               omega (arith, x.2, e0, sb, x.1, p.place),
-              subst (Holds m) (sym (was i (omega (arith, x.2, e0)) ∙ ap (λ y. get_or ws₀ y 0) r)) (x.3),
+              subst (Holds m) (sym (was i (omega (arith, x.2, e0)) ∙ ap (λ y. literal_at ws₀ y) r)) (x.3),
             ));
       };
       place = e0;

@@ -1,7 +1,7 @@
 -- Values and the trail: putting a literal on, taking one off, what a false clause tells.
 use Rattle.std.proofs.Common.{◌≡◌, ◌≢◌, ℕ, zero, suc, ◌+◌, ◌-◌, ◌*◌, ◌/◌, ◌%◌, ◌≤◌, ◌<◌, Bool, true, false, ◌⊎◌, inl, inr, ⊎_elim, List, [], ◌∷◌, length, get_or, set, sym, refl, ap, ◌∙◌, subst, arith, length-set, get_or-set_same, get_or-set_other}
 use Rattle.std.proofs.lemmas.Bool.{cases_eq}
-use Rattle.sat_laws.specs.Formulas.{bit, Assignment, Formula, Holds, SomeHolds, IsModel}
+use Rattle.sat_laws.specs.Formulas.{literal_at, bit, Assignment, Formula, Holds, SomeHolds, IsModel}
 use Rattle.sat_laws.specs.Trails.{values_given, IsFalseLiteral, AreFalse, Agrees, Forced, Refuted, Consistent, Justified}
 
 -- how many values are given
@@ -71,10 +71,10 @@ module _ (F : Formula) (values trail kinds : List ℕ) (top : ℕ) (s : Consiste
 
   -- the same, but for one literal
   pub unit_forced : (ws : List ℕ) (p q i : ℕ) → ((m : Assignment) → IsModel F m → SomeHolds m ws p q)
-      → ((j : ℕ) → p ≤ j → j < q → j ≢ i → IsFalseLiteral values (get_or ws j 0)) → Forced F trail kinds top (get_or ws i 0)
+      → ((j : ℕ) → p ≤ j → j < q → j ≢ i → IsFalseLiteral values (literal_at ws j)) → Forced F trail kinds top (literal_at ws i)
   unit_forced ws p q i c f m mm a =
       let k = c m mm in
-      ⊎_elim (λ e. subst (λ x. Holds m (get_or ws x 0)) e (k.3)) (λ ne. absurd (false_fails m mm a _ (f (k.0) (k.1) (k.2) ne) (k.3))) (cases_eq (k.0) i)
+      ⊎_elim (λ e. subst (λ x. Holds m (literal_at ws x)) e (k.3)) (λ ne. absurd (false_fails m mm a _ (f (k.0) (k.1) (k.2) ne) (k.3))) (cases_eq (k.0) i)
 
 pub push_justified : (F : Formula) (trail kinds : List ℕ) (top l k : ℕ) → Justified F trail kinds top → top < length trail → top < length kinds
     → (k ≡ 1) ⊎ Forced F trail kinds top l → Justified F (set trail top l) (set kinds top k) (top + 1)

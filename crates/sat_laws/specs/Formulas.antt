@@ -1,6 +1,16 @@
 -- Clauses lie one after another in a list of literals: the clause c is at the places from ends c up to ends (c + 1).
--- A literal is 2 * v + s, and holds where the variable v has the bit s.
-use Rattle.std.specs.Prelude.{◌≡◌, ℕ, ◌+◌, ◌/◌, ◌%◌, ◌≤◌, ◌<◌, Bool, true, false, List, length, get_or}
+-- A literal is 2 * v + s, and holds where the variable v has the bit s. Two literals stand in a word, the first one in its low
+-- half.
+use Rattle.std.specs.Prelude.{◌≡◌, ℕ, ◌+◌, ◌*◌, ◌/◌, ◌%◌, ◌≤◌, ◌<◌, Bool, true, false, cond, eqb, List, length, get_or, set}
+
+-- the literal in the place j
+unfoldable pub literal_at : List ℕ → ℕ → ℕ
+literal_at ws j = cond (eqb (j % 2) 0) (get_or ws (j / 2) 0 % 65536) (get_or ws (j / 2) 0 / 65536)
+
+-- the words with the literal l in the place j
+unfoldable pub with_literal : List ℕ → ℕ → ℕ → List ℕ
+with_literal ws j l =
+    set ws (j / 2) (cond (eqb (j % 2) 0) (get_or ws (j / 2) 0 / 65536 * 65536 + l) (get_or ws (j / 2) 0 % 65536 + 65536 * l))
 
 -- a truth value as a number
 abbrev pub bit : Bool → ℕ
@@ -17,7 +27,7 @@ Holds m l = bit (m (l / 2)) ≡ l % 2
 
 -- some literal from the place a up to b is true
 abbrev pub SomeHolds : Assignment → List ℕ → ℕ → ℕ → Type 0
-SomeHolds m ws a b = (j : ℕ) × (a ≤ j) × (j < b) × Holds m (get_or ws j 0)
+SomeHolds m ws a b = (j : ℕ) × (a ≤ j) × (j < b) × Holds m (literal_at ws j)
 
 -- the first k clauses are true
 abbrev pub ClausesHold : Assignment → List ℕ → List ℕ → ℕ → Type 0
@@ -40,11 +50,11 @@ Implied F ws ends k = (m : Assignment) → IsModel F m → ClausesHold m ws ends
 -- the first k clauses lie within the literals, one after another, and have variables below n
 pub record WellFormed (ws ends : List ℕ) (k n : ℕ) : Type 0 where
   pub table : k < length ends
-  pub within : (c : ℕ) → c ≤ k → get_or ends c 0 ≤ length ws
-  pub small : (j : ℕ) → j < get_or ends k 0 → get_or ws j 0 / 2 < n
+  pub within : (c : ℕ) → c ≤ k → get_or ends c 0 ≤ 2 * length ws
+  pub small : (j : ℕ) → j < get_or ends k 0 → literal_at ws j / 2 < n
   pub rising : (c d : ℕ) → c ≤ d → d ≤ k → get_or ends c 0 ≤ get_or ends d 0
 
 -- the first k clauses are as they were
 pub record SameClauses (ws ends : List ℕ) (k : ℕ) (ws′ ends′ : List ℕ) : Type 0 where
-  pub same_literals : (j : ℕ) → j < get_or ends k 0 → get_or ws′ j 0 ≡ get_or ws j 0
+  pub same_literals : (j : ℕ) → j < get_or ends k 0 → literal_at ws′ j ≡ literal_at ws j
   pub same_ends : (c : ℕ) → c ≤ k → get_or ends′ c 0 ≡ get_or ends c 0

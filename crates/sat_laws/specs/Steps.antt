@@ -1,6 +1,6 @@
 -- What each step of the search promises.
 use Rattle.std.specs.Prelude.{◌≡◌, ◌≢◌, ℕ, ◌+◌, ◌*◌, ◌/◌, ◌≤◌, ◌<◌, ◌⊎◌, List, length, get_or}
-use Rattle.sat_laws.specs.Formulas.{bit, Assignment, Formula, IsModel, Implied, WellFormed, SameClauses}
+use Rattle.sat_laws.specs.Formulas.{literal_at, bit, Assignment, Formula, IsModel, Implied, WellFormed, SameClauses}
 use Rattle.sat_laws.specs.Trails.{IsFalseLiteral, Forced, Refuted, Consistent, Justified, trail_weight}
 
 -- the trail with one more literal
@@ -34,12 +34,12 @@ pub record Backtracked (trail kinds : List ℕ) (top : ℕ) (values′ trail′ 
 
 -- each literal from a up to b is l, or false and of a marked variable, and what was marked still is
 pub record Marked (ws values : List ℕ) (a b l : ℕ) (marks marks′ : List ℕ) : Type 0 where
-  pub new : (j : ℕ) → a ≤ j → j < b → (get_or ws j 0 ≡ l) ⊎ (IsFalseLiteral values (get_or ws j 0) × (0 < get_or marks′ (get_or ws j 0 / 2) 0))
+  pub new : (j : ℕ) → a ≤ j → j < b → (literal_at ws j ≡ l) ⊎ (IsFalseLiteral values (literal_at ws j) × (0 < get_or marks′ (literal_at ws j / 2) 0))
   pub old : (v : ℕ) → 0 < get_or marks v 0 → 0 < get_or marks′ v 0
 
 -- each literal from a up to b is l, or false and of another marked variable
 abbrev pub Covered : List ℕ → List ℕ → ℕ → ℕ → ℕ → List ℕ → Type 0
-Covered ws values a b l marks = (j : ℕ) → a ≤ j → j < b → (get_or ws j 0 ≡ l) ⊎ (IsFalseLiteral values (get_or ws j 0) × (get_or ws j 0 / 2 ≢ l / 2) × (0 < get_or marks (get_or ws j 0 / 2) 0))
+Covered ws values a b l marks = (j : ℕ) → a ≤ j → j < b → (literal_at ws j ≡ l) ⊎ (IsFalseLiteral values (literal_at ws j) × (literal_at ws j / 2 ≢ l / 2) × (0 < get_or marks (literal_at ws j / 2) 0))
 
 -- each model of F differs from the values at some marked variable
 abbrev pub Apart : Formula → List ℕ → List ℕ → Type 0
@@ -48,10 +48,10 @@ Apart F values marks = (m : Assignment) → IsModel F m → (v : ℕ) × (0 < ge
 -- the clause of the marked variables, at the places from a up to b
 pub record Gathered (ws values marks : List ℕ) (a : ℕ) (ws′ : List ℕ) (b : ℕ) : Type 0 where
   pub below : a ≤ b
-  pub within : b ≤ length ws′
-  pub same : (j : ℕ) → j < a → get_or ws′ j 0 ≡ get_or ws j 0
-  pub each : (v : ℕ) → v < length values → 0 < get_or marks v 0 → 0 < get_or values v 0 → (j : ℕ) × (a ≤ j) × (j < b) × (get_or ws′ j 0 + get_or values v 0 ≡ 2 * v + 2)
-  pub small : (j : ℕ) → a ≤ j → j < b → get_or ws′ j 0 / 2 < length values
+  pub within : b ≤ 2 * length ws′
+  pub same : (j : ℕ) → j < a → literal_at ws′ j ≡ literal_at ws j
+  pub each : (v : ℕ) → v < length values → 0 < get_or marks v 0 → 0 < get_or values v 0 → (j : ℕ) × (a ≤ j) × (j < b) × (literal_at ws′ j + get_or values v 0 ≡ 2 * v + 2)
+  pub small : (j : ℕ) → a ≤ j → j < b → literal_at ws′ j / 2 < length values
 
 -- the clauses with one more, of the marked variables, or as they were
 pub record Learnt (ws ends : List ℕ) (k : ℕ) (values marks : List ℕ) (ws′ ends′ : List ℕ) (k′ : ℕ) : Type 0 where
@@ -82,9 +82,9 @@ pub record Decided (values trail kinds : List ℕ) (top : ℕ) (values′ trail�
 
 -- the words from s up to b, moved down to e
 pub record MovedDown (ws : List ℕ) (s b e : ℕ) (ws′ : List ℕ) : Type 0 where
-  pub moved : (i : ℕ) → s + i < b → get_or ws′ (e + i) 0 ≡ get_or ws (s + i) 0
-  pub low : (i : ℕ) → i < e → get_or ws′ i 0 ≡ get_or ws i 0
-  pub high : (i : ℕ) → b ≤ i → get_or ws′ i 0 ≡ get_or ws i 0
+  pub moved : (i : ℕ) → s + i < b → literal_at ws′ (e + i) ≡ literal_at ws (s + i)
+  pub low : (i : ℕ) → i < e → literal_at ws′ i ≡ literal_at ws i
+  pub high : (i : ℕ) → b ≤ i → literal_at ws′ i ≡ literal_at ws i
 
 -- the first k₀ clauses, and some of those from k₀ up to k
 pub record Reduced (ws ends : List ℕ) (k₀ k n : ℕ) (ws′ ends′ : List ℕ) (r : ℕ) : Type 0 where
@@ -99,5 +99,5 @@ pub record Reducing (ws₀ ends₀ : List ℕ) (k₀ k n : ℕ) (ws ends : List 
   pub place : s ≡ get_or ends₀ c 0
   pub behind : kept_count ≤ c
   pub under : get_or ends kept_count 0 ≤ s
-  pub rest : (j : ℕ) → s ≤ j → get_or ws j 0 ≡ get_or ws₀ j 0
+  pub rest : (j : ℕ) → s ≤ j → literal_at ws j ≡ literal_at ws₀ j
   pub later : (d : ℕ) → c < d → get_or ends d 0 ≡ get_or ends₀ d 0

@@ -1,7 +1,7 @@
 -- Values and the trail. A value is 0 for none, 1 for the bit 0, 2 for the bit 1. A place of the trail has a literal and a
 -- kind: 1 for a decision, and else forced.
 use Rattle.std.specs.Prelude.{◌≡◌, ℕ, zero, suc, ◌+◌, ◌*◌, ◌/◌, ◌%◌, ◌^◌, ◌≤◌, ◌<◌, min, cond, eqb, ltb, ◌⊎◌, List, [], ◌∷◌, length, get_or}
-use Rattle.sat_laws.specs.Formulas.{Assignment, Formula, Holds, IsModel}
+use Rattle.sat_laws.specs.Formulas.{literal_at, Assignment, Formula, Holds, IsModel}
 
 -- how many values are not 0
 abbrev pub values_given : List ℕ → ℕ
@@ -18,11 +18,11 @@ IsFalseLiteral values l = get_or values (l / 2) 0 + l % 2 ≡ 2
 
 -- the literals from the place a up to b are false
 abbrev pub AreFalse : List ℕ → List ℕ → ℕ → ℕ → Type 0
-AreFalse values ws a b = (j : ℕ) → a ≤ j → j < b → IsFalseLiteral values (get_or ws j 0)
+AreFalse values ws a b = (j : ℕ) → a ≤ j → j < b → IsFalseLiteral values (literal_at ws j)
 
 -- the literals from the place a up to b, but for the place i, are false
 abbrev pub OthersFalse : List ℕ → List ℕ → ℕ → ℕ → ℕ → Type 0
-OthersFalse values ws a b i = (j : ℕ) → a ≤ j → j < b → (j ≡ i → ⊥) → IsFalseLiteral values (get_or ws j 0)
+OthersFalse values ws a b i = (j : ℕ) → a ≤ j → j < b → (j ≡ i → ⊥) → IsFalseLiteral values (literal_at ws j)
 
 -- the clause c is one of the first k, and false; or c is k, and nothing is said
 abbrev pub Conflicts : List ℕ → List ℕ → ℕ → List ℕ → ℕ → Type 0

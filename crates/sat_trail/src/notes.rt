@@ -1,8 +1,6 @@
 // The notes: what guides the search. Nothing is proved of them but that they are read and written within bounds, so they can
 // cost time, and never an answer.
 
-ghost use Rattle.std.specs.Prelude.{◌≡◌, ◌+◌, slice_index};
-
 // The first words of the notes.
 pub const DECISION_LEVEL: u32 = 0; // the number of decisions on the trail
 
@@ -42,16 +40,14 @@ pub struct Places {
 }
 
 // The note in a place, and 0 past the end.
-pub fn noted(notes: &[u32], part: u32, index: u32) -> u32
-    ensures { result ≡ slice_index notes.now (part + index) }
-{
-    let i = part as usize + index as usize;
+pub fn noted(notes: &[u32], part: u32, index: usize) -> u32 {
+    let i = index.wrapping_add(part as usize);
     if i < notes.len() { notes[i] } else { 0 }
 }
 
 // Writes a note into a place, and nothing past the end.
-pub fn note(notes: &mut [u32], part: u32, index: u32, value: u32) {
-    let i = part as usize + index as usize;
+pub fn note(notes: &mut [u32], part: u32, index: usize, value: u32) {
+    let i = index.wrapping_add(part as usize);
     if i < notes.len() {
         notes[i] = value;
     }

@@ -60,7 +60,7 @@ fn unwind(
     while t > 0 {
         t -= 1;
         let v = (trail[t] / 2) as usize;
-        note(notes, places.phase, trail[t] / 2, values[v]);
+        note(notes, places.phase, v, values[v]);
         values[v] = 0;
         if kinds[t] == 1 {
             return t + 1;
@@ -87,7 +87,7 @@ pub fn cut_back(
     while t > to {
         t -= 1;
         let v = (trail[t] / 2) as usize;
-        note(notes, places.phase, trail[t] / 2, values[v]);
+        note(notes, places.phase, v, values[v]);
         values[v] = 0;
     }
 }
@@ -114,8 +114,9 @@ pub fn backtrack(
     push(values, trail, kinds, r - 1, other, 0);
     let level = noted(notes, DECISION_LEVEL, 0).saturating_sub(1);
     note(notes, DECISION_LEVEL, 0, level);
-    note(notes, places.level, literal / 2, level);
-    note(notes, places.reason, literal / 2, 0);
+    let v = (literal / 2) as usize;
+    note(notes, places.level, v, level);
+    note(notes, places.reason, v, 0);
     r
 }
 
@@ -137,10 +138,11 @@ pub fn decide(
     push(values, trail, kinds, top, literal, 1);
     let level = noted(notes, DECISION_LEVEL, 0);
     if top < 4294967296 {
-        note(notes, places.decision, level, top as u32);
+        note(notes, places.decision, level as usize, top as u32);
     }
     let next = level.saturating_add(1);
     note(notes, DECISION_LEVEL, 0, next);
-    note(notes, places.level, literal / 2, next);
-    note(notes, places.reason, literal / 2, 0);
+    let v = (literal / 2) as usize;
+    note(notes, places.level, v, next);
+    note(notes, places.reason, v, 0);
 }
