@@ -39,15 +39,8 @@ module _ {ws₀ ends₀ : List ℕ} {k₀ : ℕ} {ws ends : List ℕ} {k : ℕ} 
     pub run_grown : Grown ws ends k values trail kinds top values′ trail′ kinds′ top′ → Running ws₀ ends₀ k₀ ws ends k values′ trail′ kinds′ top′
     run_grown g = run_to (g.consistent) (g.justified _ (r.sound) (r.justified))
 
-    pub run_backjumped : {k′ : ℕ} → Backjumped ws ends k₀ k trail kinds top values′ trail′ kinds′ top′ k′ → Running ws₀ ends₀ k₀ ws ends k′ values′ trail′ kinds′ top′
-    run_backjumped g = record {
-      shaped = well_formed_fewer _ _ _ _ _ (g.high) (subst (WellFormed ws ends k) (sym e) (r.shaped));
-      kept = r.kept;
-      more = g.low;
-      consistent = g.consistent;
-      sound = implied_fewer _ _ _ _ 0 (g.high) _ (r.sound);
-      justified = g.justified _ (r.sound) (r.justified);
-    }
+    pub run_backjumped : Backjumped ws ends k trail kinds top values′ trail′ kinds′ top′ → Running ws₀ ends₀ k₀ ws ends k values′ trail′ kinds′ top′
+    run_backjumped g = run_to g.consistent (g.justified _ r.sound r.justified)
 
 pub run_start : {ws ends : List ℕ} {k : ℕ} {values trail kinds : List ℕ} → WellFormed ws ends k (length values) → Consistent values trail kinds 0 → Running ws ends k ws ends k values trail kinds 0
 run_start sh b = record {

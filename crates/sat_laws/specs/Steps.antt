@@ -67,12 +67,10 @@ pub record Analyzed (ws ends : List ℕ) (k n : ℕ) (ws′ ends′ : List ℕ) 
   pub more : k ≤ k′
   pub sound : (F : Formula) → Implied F ws ends k → Implied F ws′ ends′ k′
 
--- the trail after a conflict
-pub record Backjumped (ws ends : List ℕ) (k k₂ : ℕ) (trail kinds : List ℕ) (top : ℕ) (values′ trail′ kinds′ : List ℕ) (top′ k′ : ℕ) : Type 0 where
-  pub low : k ≤ k′
-  pub high : k′ ≤ k₂
+-- the trail after a conflict: some of its first literals, and what follows from the first k clauses
+pub record Backjumped (ws ends : List ℕ) (k : ℕ) (trail kinds : List ℕ) (top : ℕ) (values′ trail′ kinds′ : List ℕ) (top′ : ℕ) : Type 0 where
   pub consistent : Consistent values′ trail′ kinds′ top′
-  pub justified : (F : Formula) → Implied F ws ends k₂ → Justified F trail kinds top → Justified F trail′ kinds′ top′
+  pub justified : (F : Formula) → Implied F ws ends k → Justified F trail kinds top → Justified F trail′ kinds′ top′
 
 -- the trail with one more decision
 pub record Decided (values trail kinds : List ℕ) (top : ℕ) (values′ trail′ kinds′ : List ℕ) : Type 0 where
