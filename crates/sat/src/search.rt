@@ -1,0 +1,115 @@
+// The search: propagate, decide, learn, until there is a model or a conflict without a decision.
+
+ghost use Rattle.std.specs.Prelude.{◌≡◌, ℕ, ◌≤◌, ◌<◌, true, false, length, slice_index};
+ghost use Rattle.sat_laws.specs.Formulas.{Assignment, ClausesHold, WellFormed};
+ghost use Rattle.sat_laws.specs.Trails.{Consistent};
+ghost use Rattle.sat_laws.specs.Steps.{Grown};
+ghost use Rattle.sat.specs.Steps.{IsToldModel};
+
+use crate::next::{Step, next_step};
+use sat_learning::{recover, reduce, study};
+use sat_propagation::{infer, propagate, watch_all};
+use sat_trail::{
+    ACTIVITY_STEP, DECISION_LEVEL, Places, RESTART_PHASE, RESTART_RUN, SPAN, backtrack, decide,
+    note, noted,
+};
+
+// Takes what each clause gives with no decision. Says how many literals the trail has then.
+fn start(
+    words: &[u32],
+    ends: &[u32],
+    clauses: usize,
+    values: &mut [u32],
+    trail: &mut [u32],
+    kinds: &mut [u32],
+    notes: &mut [u32],
+    places: &Places,
+) -> usize
+    requires well_formed { WellFormed words.now ends.now clauses (length values.old) }
+    requires consistent { Consistent values.old trail.old kinds.old 0 }
+    ensures grown { Grown words.now ends.now clauses values.old trail.old kinds.old 0 values.new trail.new kinds.new result }
+{
+    note(notes, ACTIVITY_STEP, 0, 1000);
+    note(notes, RESTART_RUN, 0, 1);
+    note(notes, RESTART_PHASE, 0, 1);
+    note(notes, SPAN, 0, 2000);
+    watch_all(words, ends, clauses, values, notes, places);
+    let mut top = 0;
+    for clause in 0..clauses {
+        let (grown, _) = infer(
+            words, ends, clauses, values, trail, kinds, notes, places, top, clause,
+        );
+        top = grown;
+    }
+    top
+}
+
+// Whether the first `given` clauses have a model, which the values then tell.
+pub(crate) fn search(
+    words: &mut [u32],
+    ends: &mut [u32],
+    given: usize,
+    values: &mut [u32],
+    trail: &mut [u32],
+    kinds: &mut [u32],
+    marks: &mut [u32],
+    notes: &mut [u32],
+    places: &Places,
+) -> bool
+    requires well_formed { WellFormed words.old ends.old given (length values.old) }
+    requires few { length values.old ≤ 32768 }
+    requires fresh { (v : ℕ) → slice_index values.old v ≡ 0 }
+    requires room { length values.old ≤ length trail.old }
+    requires room_for_kinds { length values.old ≤ length kinds.old }
+    ensures satisfiable { result ≡ true → IsToldModel words.old ends.old given values.new }
+    ensures unsatisfiable { result ≡ false → (m : Assignment) → ClausesHold m words.old ends.old given → ⊥ }
+{
+    let mut top = start(words, ends, given, values, trail, kinds, notes, places);
+    let mut clauses = given;
+    let mut from = 0;
+    let mut fuel: u32 = 4000000000;
+    loop {
+        let (t, conflict) = propagate(
+            words, ends, clauses, values, trail, kinds, notes, places, top, from,
+        );
+        match next_step(words, ends, given, clauses, values, notes, places, conflict) {
+            Step::Model => return true,
+            Step::Decide(l) => {
+                decide(values, trail, kinds, notes, places, t, l);
+                from = t;
+                top = t + 1;
+            }
+            Step::Conflict(clause) => {
+                if fuel == 0 || noted(notes, DECISION_LEVEL, 0) == 0 {
+                    top = backtrack(values, trail, kinds, notes, places, t);
+                    if top == 0 {
+                        return false;
+                    }
+                    from = top - 1;
+                    continue;
+                }
+                fuel -= 1;
+                let (more, cut) = study(
+                    words, ends, clauses, values, trail, marks, notes, places, t, clause,
+                );
+                match cut {
+                    None => {
+                        clauses = more;
+                        top = backtrack(values, trail, kinds, notes, places, t);
+                        if top == 0 {
+                            return false;
+                        }
+                        from = top - 1;
+                    }
+                    Some(to) => {
+                        top = recover(
+                            words, ends, more, values, trail, kinds, notes, places, t, to,
+                        );
+                        from = to;
+                        clauses = reduce(words, ends, given, more, values, notes, places);
+                    }
+                }
+            }
+        }
+    }
+}

@@ -1,0 +1,4 @@
+pub mod Formulas
+pub mod Trails
+pub mod Steps
+pub mod Runs

@@ -1,0 +1,54 @@
+// The notes: what guides the search. Nothing is proved of them but that they are read and written within bounds, so they can
+// cost time, and never an answer.
+
+// The first words of the notes.
+pub const DECISION_LEVEL: u32 = 0; // the number of decisions on the trail
+
+pub const ACTIVITY_STEP: u32 = 1; // what is added to the activity of a variable that is met
+
+pub const CONFLICTS: u32 = 2; // conflicts since the last restart
+
+pub const OPEN: u32 = 3; // marked variables of the last level that are still to be resolved
+
+pub const RESTART_RUN: u32 = 4; // two numbers that say how long the search runs until the next restart
+
+pub const RESTART_PHASE: u32 = 5;
+
+pub const ROUND: u32 = 6; // counts the learnt clauses, to stamp levels
+
+pub const LEARNT: u32 = 7; // clauses learnt since the last reduction
+
+pub const SPAN: u32 = 8; // how many are to be learnt before the next
+
+pub const TALLY: u32 = 16; // by glue: how many learnt clauses have it
+
+pub const TALLY_LENGTH: u32 = 64;
+
+// Where the other parts of the notes begin, and how many clauses were given.
+#[derive(Clone, Copy)]
+pub struct Places {
+    pub level: u32, // by variable: the level at which it got its value
+    pub reason: u32, // by variable: the clause that gave the value, plus one, or 0
+    pub activity: u32, // by variable: how often it was met of late
+    pub phase: u32, // by variable: its last value
+    pub first_watch: u32, // by literal: the first node that watches it, plus one, or 0
+    pub decision: u32, // by level: the place of its decision on the trail
+    pub stamp: u32, // by level: the last round that met it
+    pub node: u32, // two by clause: the next node in the high half, the place in the clause in the low half
+    pub glue: u32, // by learnt clause: its number of levels when it was learnt
+    pub given: u32, // how many clauses were given
+}
+
+// The note in a place, and 0 past the end.
+pub fn noted(notes: &[u32], part: u32, index: usize) -> u32 {
+    let i = index.wrapping_add(part as usize);
+    if i < notes.len() { notes[i] } else { 0 }
+}
+
+// Writes a note into a place, and nothing past the end.
+pub fn note(notes: &mut [u32], part: u32, index: usize, value: u32) {
+    let i = index.wrapping_add(part as usize);
+    if i < notes.len() {
+        notes[i] = value;
+    }
+}
