@@ -40,6 +40,7 @@ literals_kept g (c ∷ cs) =
 abbrev exact_weight : (ℕ → ℕ) → ℕ
 exact_weight w = greatest 20 (question_weight w) + symmetry_weight w
 
+-- the clauses of a valid question and at most seven gates weigh no more than this
 exact_within : (w : ℕ → ℕ) → ((x y : ℕ) → x ≤ y → w x ≤ w y) → (q : Question) (r : ℕ) → Valid q → r ≤ 7
     → sum_by (weighs w) (exact_clauses q r) ≤ exact_weight w
 exact_within w up q r valid few =

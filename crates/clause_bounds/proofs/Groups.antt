@@ -16,51 +16,51 @@ module _ (w : ℕ → ℕ) where
   weighs c = w (length c)
 
   -- exactly one of x
-  abbrev pub exactly_one_weight : ℕ → ℕ
+  abbrev exactly_one_weight : ℕ → ℕ
   exactly_one_weight x = w x + total 0 x (λ k. (x - suc k) * w 2)
 
   -- group 1
-  abbrev pub choice_weight : ℕ
+  abbrev choice_weight : ℕ
   choice_weight = total 0 7 (λ k. 3 * exactly_one_weight (5 + k))
 
   -- the value of a fan-in of the k-th gate in a row, for the x-th node before that gate
-  abbrev pub row_weight : ℕ → ℕ → ℕ
+  abbrev row_weight : ℕ → ℕ → ℕ
   row_weight k x = cond (ltb x k) (4 * w 4) (2 * w 3)
 
   -- group 2
-  abbrev pub value_weight : ℕ
+  abbrev value_weight : ℕ
   value_weight = total 0 7 (λ k. 3 * total 0 (5 + k) (λ x. 16 * row_weight k x))
 
   -- group 3
-  abbrev pub majority_weight : ℕ
+  abbrev majority_weight : ℕ
   majority_weight = 7 * (16 * (6 * w 3))
 
   -- the value of the output in a row, for the x-th node from the last
-  abbrev pub output_row_weight : ℕ → ℕ
+  abbrev output_row_weight : ℕ → ℕ
   output_row_weight x = cond (ltb x 7) (2 * w 3) (w 2)
 
   -- group 5
-  abbrev pub output_value_weight : ℕ
+  abbrev output_value_weight : ℕ
   output_value_weight = total 0 12 (λ x. 16 * output_row_weight x)
 
   -- the levels of the k-th gate
-  abbrev pub level_weight : ℕ → ℕ
+  abbrev level_weight : ℕ → ℕ
   level_weight k = w 1 + 3 * (k * (7 * w 3))
 
   -- group 6
-  abbrev pub levels_weight : ℕ
+  abbrev levels_weight : ℕ
   levels_weight = total 0 7 level_weight + 7 * w 2
 
   -- a step of a count with the fan-out limit f
-  abbrev pub step_weight : ℕ → ℕ
+  abbrev step_weight : ℕ → ℕ
   step_weight f = f * w 2 + ((f - 1) * w 3 + w 2)
 
   -- how a use is counted, which is the use k of its gate
-  abbrev pub counter_weight : ℕ → ℕ → ℕ
+  abbrev counter_weight : ℕ → ℕ → ℕ
   counter_weight f k = w 2 + cond (ltb 1 k) (step_weight f) 0
 
   -- group 7
-  abbrev pub fan_outs_weight : ℕ → ℕ
+  abbrev fan_outs_weight : ℕ → ℕ
   fan_outs_weight f = uses_weight f (λ x. counter_weight f (1 + x))
 
   -- the seven groups

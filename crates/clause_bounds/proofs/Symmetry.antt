@@ -9,31 +9,31 @@ use Rattle.clause_bounds.proofs.Groups.{weighs}
 
 module _ (w : ℕ → ℕ) where
   -- group a
-  abbrev pub complement_weight : ℕ
+  abbrev complement_weight : ℕ
   complement_weight = 7 * (3 * w 2)
 
   -- not the node j before a node that is not behind it
-  abbrev pub fall_weight : ℕ → ℕ
+  abbrev fall_weight : ℕ → ℕ
   fall_weight j = cond (eqb j 0) (w 3) (w 2) + w 2
 
   -- group b
-  abbrev pub rise_weight : ℕ
+  abbrev rise_weight : ℕ
   rise_weight = total 0 7 (λ k. total 0 (5 + k) (λ j. suc j * fall_weight (0 + j)))
 
   -- group c
-  abbrev pub buffer_weight : ℕ
+  abbrev buffer_weight : ℕ
   buffer_weight = 7 * (5 * w 3)
 
   -- group e
-  abbrev pub named_weight : ℕ
+  abbrev named_weight : ℕ
   named_weight = total 0 6 (λ k. w ((1 + k) * 3))
 
   -- group f
-  abbrev pub first_row_weight : ℕ
+  abbrev first_row_weight : ℕ
   first_row_weight = 7 * w 1
 
   -- group g
-  abbrev pub neighbour_weight : ℕ
+  abbrev neighbour_weight : ℕ
   neighbour_weight = total 0 6 (λ k. total 0 (5 + k) (λ j. j * w 2))
 
   -- the seven groups

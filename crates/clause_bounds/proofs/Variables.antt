@@ -7,11 +7,11 @@ use Rattle.cnf.specs.Numbers.{total}
 use Rattle.clause_bounds.proofs.Weights.{both_within, each_within, same_within, uses_weight, uses_within, ones}
 
 -- S
-abbrev pub count_S : ℕ
+abbrev count_S : ℕ
 count_S = total 0 7 (λ k. 3 * ((5 + k) * 1))
 
 -- K, with a fan-out limit f
-abbrev pub count_K : ℕ → ℕ
+abbrev count_K : ℕ → ℕ
 count_K f = uses_weight f (λ _. f * 1)
 
 -- all kinds: S, N, A, B, O, Q, H and K
