@@ -1,0 +1,5 @@
+pub mod Weights
+pub mod Groups
+pub mod Symmetry
+pub mod Variables
+pub mod Bounds

@@ -1,0 +1,101 @@
+-- The weight of the symmetry clauses of at most seven gates, group by group, where a clause weighs by its length.
+use Rattle.std.proofs.Common.{ℕ, suc, ◌+◌, ◌-◌, ◌*◌, ◌≤◌, Bool, true, false, cond, eqb, [], ◌∷◌, length, arith}
+use Rattle.std.specs.List.{sum_by}
+use Rattle.cnf.specs.Variables.{O, N, S, pos, neg, each}
+use Rattle.cnf.specs.Numbers.{total}
+use Rattle.symmetry_laws.specs.Symmetry.{no_fall, naming, complements_once, fan_ins_rise, buffers_copy_gates, output_last, gates_named, first_row_zero, neighbours_ordered, symmetry_clauses}
+use Rattle.clause_bounds.proofs.Weights.{both_within, each_within, each_within_back, same_within, length_within}
+use Rattle.clause_bounds.proofs.Groups.{weighs}
+
+module _ (w : ℕ → ℕ) where
+  -- group a
+  abbrev complement_weight : ℕ
+  complement_weight = 7 * (3 * w 2)
+
+  -- not the node j before a node that is not behind it
+  abbrev fall_weight : ℕ → ℕ
+  fall_weight j = cond (eqb j 0) (w 3) (w 2) + w 2
+
+  -- group b
+  abbrev rise_weight : ℕ
+  rise_weight = total 0 7 (λ k. total 0 (5 + k) (λ j. suc j * fall_weight (0 + j)))
+
+  -- group c
+  abbrev buffer_weight : ℕ
+  buffer_weight = 7 * (5 * w 3)
+
+  -- group e
+  abbrev named_weight : ℕ
+  named_weight = total 0 6 (λ k. w ((1 + k) * 3))
+
+  -- group f
+  abbrev first_row_weight : ℕ
+  first_row_weight = 7 * w 1
+
+  -- group g
+  abbrev neighbour_weight : ℕ
+  neighbour_weight = total 0 6 (λ k. total 0 (5 + k) (λ j. j * w 2))
+
+  -- the seven groups
+  abbrev pub symmetry_weight : ℕ
+  symmetry_weight = complement_weight + (rise_weight + (buffer_weight + (w 1 + (named_weight + (first_row_weight + neighbour_weight)))))
+
+module _ (w : ℕ → ℕ) (up : (x y : ℕ) → x ≤ y → w x ≤ w y) (n r : ℕ) (few_inputs : n ≤ 4) (few_gates : r ≤ 7) where
+  complements_within : sum_by (weighs w) (complements_once n r) ≤ complement_weight w
+  complements_within = same_within (weighs w) (suc n) r 7 (3 * w 2) _ few_gates (λ k l. omega arith)
+
+  no_fall_within : (i j k : ℕ) → sum_by (weighs w) (no_fall i j k) ≤ fall_weight w j
+  no_fall_within i j k = at (eqb j 0)
+    where
+      at : (b : Bool) → sum_by (weighs w) ((neg (S i 1 j) ∷ neg (S i 2 k) ∷ cond b (pos (N i 2) ∷ []) []) ∷ (neg (S i 2 j) ∷ neg (S i 3 k) ∷ []) ∷ [])
+          ≤ cond b (w 3) (w 2) + w 2
+      at true = omega arith
+      at false = omega arith
+
+  rise_within : sum_by (weighs w) (fan_ins_rise n r) ≤ rise_weight w
+  rise_within =
+      each_within (weighs w) (suc n) r 7 _ _ few_gates
+      (λ k l. each_within (weighs w) 0 (suc n + k) (5 + k) _ _ (omega arith)
+      (λ j u. same_within (weighs w) 0 (suc (0 + j)) (suc j) (fall_weight w (0 + j)) _ (omega arith)
+      (λ m v. no_fall_within (suc n + k) (0 + j) (0 + m))))
+
+  buffers_within : sum_by (weighs w) (buffers_copy_gates n r) ≤ buffer_weight w
+  buffers_within =
+      same_within (weighs w) (suc n) r 7 (5 * w 3) _ few_gates
+      (λ k l. same_within (weighs w) 0 (suc n) 5 (w 3) _ (omega arith) (λ j u. omega arith))
+
+  output_within : sum_by (weighs w) (output_last n r) ≤ w 1
+  output_within = at (eqb r 0)
+    where
+      at : (b : Bool) → sum_by (weighs w) (cond b [] ((pos (O (n + r)) ∷ []) ∷ [])) ≤ w 1
+      at true = omega arith
+      at false = omega arith
+
+  named_within : sum_by (weighs w) (gates_named n r) ≤ named_weight w
+  named_within =
+      each_within_back (weighs w) (suc n) (r - 1) 6 _ _ (omega arith)
+      (λ k l.
+      let j = suc n + (r - 1) - suc k in
+      let names = each (suc j) (n + r - j) (naming j) in
+      let few : length names ≤ (1 + k) * 3 = length_within (suc j) (n + r - j) (1 + k) 3 _ (omega arith) (λ i u. omega arith) in
+      omega (arith, up (length names) ((1 + k) * 3) few))
+
+  first_row_within : sum_by (weighs w) (first_row_zero n r) ≤ first_row_weight w
+  first_row_within = same_within (weighs w) (suc n) r 7 (w 1) _ few_gates (λ k l. omega arith)
+
+  neighbours_within : sum_by (weighs w) (neighbours_ordered n r) ≤ neighbour_weight w
+  neighbours_within =
+      each_within (weighs w) (suc n) (r - 1) 6 _ _ (omega arith)
+      (λ k l. each_within (weighs w) 0 (suc n + k) (5 + k) _ _ (omega arith)
+      (λ j u. same_within (weighs w) 0 (0 + j) j (w 2) _ (omega arith) (λ m v. omega arith)))
+
+  -- the symmetry clauses weigh no more than this
+  pub symmetry_within : sum_by (weighs w) (symmetry_clauses n r) ≤ symmetry_weight w
+  unfolding symmetry_clauses
+  symmetry_within =
+      both_within (weighs w) (complements_once n r) _ complements_within
+      (both_within (weighs w) (fan_ins_rise n r) _ rise_within
+      (both_within (weighs w) (buffers_copy_gates n r) _ buffers_within
+      (both_within (weighs w) (output_last n r) _ output_within
+      (both_within (weighs w) (gates_named n r) _ named_within
+      (both_within (weighs w) (first_row_zero n r) _ first_row_within neighbours_within)))))
