@@ -8,6 +8,7 @@ use crate::shape::{Shape, literals_place, notes_length, places, table_length};
 use sat_clauses::well_formed;
 
 // The answer of the solver.
+#[derive(Clone, Copy)]
 pub enum Answer {
     Satisfiable, // there is a model, which the values tell
     Unsatisfiable, // there is no model
