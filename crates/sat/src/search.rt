@@ -32,7 +32,7 @@ fn start(
     note(notes, ACTIVITY_STEP, 0, 100000);
     note(notes, RESTART_RUN, 0, 1);
     note(notes, RESTART_PHASE, 0, 1);
-    note(notes, SPAN, 0, 2000);
+    note(notes, SPAN, 0, 1000);
     watch_all(words, ends, clauses, values, notes, places);
     let mut top = 0;
     for clause in 0..clauses {

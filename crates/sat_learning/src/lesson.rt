@@ -9,7 +9,7 @@ use crate::learnt_clause::learn;
 use crate::marks::clear;
 use crate::minimization::{drop_undecided, minimize};
 use crate::restarts::backjump_place;
-use sat_clauses::DROPPED;
+use sat_clauses::FULL;
 use sat_trail::{DECISION_LEVEL, LEARNT, Places, note, noted};
 
 // Learns from a false clause. Says how many clauses are held then, and up to which place the trail is kept, or none where
@@ -48,7 +48,7 @@ pub fn study(
     );
     let more = learn(words, ends, clauses, values, marks);
     if more == clauses {
-        note(notes, LEARNT, 0, DROPPED);
+        note(notes, LEARNT, 0, FULL);
         note(notes, DECISION_LEVEL, 0, 0);
         let to = noted(notes, places.decision, 0) as usize;
         return (more, Some(to.min(top)));
