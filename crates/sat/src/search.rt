@@ -29,10 +29,10 @@ fn start(
     requires consistent { Consistent values.old trail.old kinds.old 0 }
     ensures grown { Grown words.now ends.now clauses values.old trail.old kinds.old 0 values.new trail.new kinds.new result }
 {
-    note(notes, ACTIVITY_STEP, 0, 1000);
+    note(notes, ACTIVITY_STEP, 0, 100000);
     note(notes, RESTART_RUN, 0, 1);
     note(notes, RESTART_PHASE, 0, 1);
-    note(notes, SPAN, 0, 2000);
+    note(notes, SPAN, 0, 1000);
     watch_all(words, ends, clauses, values, notes, places);
     let mut top = 0;
     for clause in 0..clauses {
@@ -90,7 +90,7 @@ pub(crate) fn search(
                 }
                 fuel -= 1;
                 let (more, cut) = study(
-                    words, ends, clauses, values, trail, marks, notes, places, t, clause,
+                    words, ends, clauses, values, trail, kinds, marks, notes, places, t, clause,
                 );
                 match cut {
                     None => {

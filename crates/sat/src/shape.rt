@@ -31,7 +31,7 @@ pub fn values_place(shape: &Shape) -> usize
 pub(crate) fn notes_length(shape: &Shape) -> usize
     ensures length { result ≡ notes_length shape.now }
 {
-    84 + 8 * shape.variables as usize + 2 * shape.clauses as usize + 3 * shape.learnt as usize
+    82 + 7 * shape.variables as usize + 2 * shape.clauses as usize + 2 * shape.learnt as usize
 }
 
 // The place in the words where the literals begin, two in a word.
@@ -44,12 +44,9 @@ pub fn literals_place(shape: &Shape) -> usize
 // Where the parts of the notes begin.
 pub(crate) fn places(shape: &Shape) -> Places
     requires few_variables { shape.now.variables ≤ 32768 }
-    requires few_clauses { shape.now.clauses ≤ 32767 }
-    requires few_learnt { shape.now.learnt ≤ 32767 }
 {
     let n = shape.variables;
     let level = TALLY + TALLY_LENGTH;
-    let node = level + 8 * n + 4;
     Places {
         level,
         reason: level + n,
@@ -57,9 +54,6 @@ pub(crate) fn places(shape: &Shape) -> Places
         phase: level + 3 * n,
         first_watch: level + 4 * n,
         decision: level + 6 * n,
-        stamp: level + 7 * n + 2,
-        node,
-        glue: node + 2 * (shape.clauses + shape.learnt),
-        given: shape.clauses,
+        node: level + 7 * n + 2,
     }
 }

@@ -7,4 +7,4 @@ mod reduction;
 
 pub use form::well_formed;
 pub use literals::{literal, write_literal};
-pub use reduction::{DROPPED, compact, drop_worse};
+pub use reduction::{FULL, compact, length_kept};

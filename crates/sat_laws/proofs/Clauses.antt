@@ -4,7 +4,7 @@ use Rattle.std.proofs.lemmas.Bool.{cases_eq, cases_lt, cases_Bool}
 use Rattle.std.proofs.lemmas.Bool.Decides.{nat_tests}
 use Rattle.std.proofs.lemmas.List.{get_or_past}
 use Rattle.sat_laws.specs.Formulas.{literal_at, bit, Assignment, Formula, Holds, SomeHolds, ClausesHold, IsModel, Implied, WellFormed, SameClauses}
-use Rattle.sat_laws.specs.Trails.{IsTrueLiteral, IsFalseLiteral}
+use Rattle.sat_laws.specs.Trails.{Justified, IsTrueLiteral, IsFalseLiteral}
 use Rattle.sat_laws.specs.Steps.{Marked, Covered, Apart, Gathered}
 use Rattle.sat_laws.specs.Runs.{assignment_of}
 use Rattle.sat_laws.proofs.Trails.{bit_le}
@@ -39,6 +39,21 @@ apart_more F ws values marks marks′ a b l c t ap1 k m mm =
     (k.new (x.0) (x.1) (x.2)))
     (λ (ne : u.0 ≡ l / 2 → ⊥). (u.0, k.old (u.0) (subst (λ y. 0 < y) (sym (get_or-set_other marks (l / 2) (u.0) 0 0 ne)) (u.1)), u.2, u.3))
     (cases_eq (u.0) (l / 2))
+
+-- a variable whose literal on the trail needs no decision
+pub apart_undecided : (F : Formula) (values trail kinds marks : List ℕ) (top i : ℕ) → Justified F trail kinds top → i < top
+    → ((j : ℕ) → j < i + 1 → get_or kinds j 0 ≡ 1 → ⊥) → IsTrueLiteral values (get_or trail i 0) → Apart F values marks
+    → Apart F values (set marks (get_or trail i 0 / 2) 0)
+apart_undecided F values trail kinds marks top i just lt free t apart m mm =
+    let l : ℕ = get_or trail i 0 in
+    let u = apart m mm in
+    ⊎_elim
+    (λ (e : u.0 ≡ l / 2).
+    let h : Holds m l = ⊎_elim (λ d. absurd (free i (omega arith) d)) (λ f. f m mm (λ j g d. absurd (free j (omega arith) d))) (just i lt) in
+    let w : get_or values (l / 2) 0 + bit (m (l / 2)) ≡ 2 = subst (λ y. get_or values y 0 + bit (m y) ≡ 2) e u.3 in
+    absurd (omega arith))
+    (λ (ne : u.0 ≡ l / 2 → ⊥). (u.0, subst (λ y. 0 < y) (sym (get_or-set_other marks (l / 2) u.0 0 0 ne)) u.1, u.2, u.3))
+    (cases_eq u.0 (l / 2))
 
 pub gathered_holds : (F : Formula) (ws values marks : List ℕ) (a : ℕ) (ws′ : List ℕ) (b : ℕ) → Apart F values marks → Gathered ws values marks a ws′ b
     → (m : Assignment) → IsModel F m → SomeHolds m ws′ a b

@@ -6,19 +6,19 @@ use Rattle.sat_laws.specs.Steps.{Grown, Analyzed, Backjumped, Reduced}
 use Rattle.sat_laws.specs.Runs.{Running, formula_of}
 use Rattle.sat_laws.proofs.Trails.{conflict}
 use Rattle.sat_laws.proofs.Weights.{trail_less}
-use Rattle.sat_laws.proofs.Clauses.{well_formed_fewer, kept_fewer, kept_trans, implied_fewer}
+use Rattle.sat_laws.proofs.Clauses.{kept_fewer, kept_trans}
 
 module _ {ws₀ ends₀ : List ℕ} {k₀ : ℕ} {ws ends : List ℕ} {k : ℕ} {values trail kinds : List ℕ} {top : ℕ} (r : Running ws₀ ends₀ k₀ ws ends k values trail kinds top) where
   pub run_refuted : (c : ℕ) → c < k → AreFalse values ws (get_or ends c 0) (get_or ends (c + 1) 0) → Refuted (formula_of ws₀ ends₀ k₀) trail kinds top
   run_refuted c h f = conflict (formula_of ws₀ ends₀ k₀) values trail kinds top (r.consistent) (r.justified) ws _ _ (λ m mm. r.sound m mm c h) f
 
-  pub run_learnt : {ws′ ends′ : List ℕ} {k′ : ℕ} → Analyzed ws ends k (length values) ws′ ends′ k′ → Running ws₀ ends₀ k₀ ws′ ends′ k′ values trail kinds top
+  pub run_learnt : {ws′ ends′ : List ℕ} {k′ : ℕ} → Analyzed ws ends k (length values) trail kinds top ws′ ends′ k′ → Running ws₀ ends₀ k₀ ws′ ends′ k′ values trail kinds top
   run_learnt s = record {
     shaped = s.shaped;
     kept = kept_trans _ _ _ _ _ _ _ (r.kept) (kept_fewer _ _ _ _ _ (r.more) _ _ (r.shaped) (s.kept));
     more = omega (arith, r.more, s.more);
     consistent = r.consistent;
-    sound = s.sound _ (r.sound);
+    sound = s.sound _ r.sound r.justified;
     justified = r.justified;
   }
 

@@ -61,11 +61,11 @@ pub record Learnt (ws ends : List ℕ) (k : ℕ) (values marks : List ℕ) (ws�
   pub sound : (F : Formula) → Implied F ws ends k → Apart F values marks → Implied F ws′ ends′ k′
 
 -- the clauses, with what was learnt
-pub record Analyzed (ws ends : List ℕ) (k n : ℕ) (ws′ ends′ : List ℕ) (k′ : ℕ) : Type 0 where
+pub record Analyzed (ws ends : List ℕ) (k n : ℕ) (trail kinds : List ℕ) (top : ℕ) (ws′ ends′ : List ℕ) (k′ : ℕ) : Type 0 where
   pub shaped : WellFormed ws′ ends′ k′ n
   pub kept : SameClauses ws ends k ws′ ends′
   pub more : k ≤ k′
-  pub sound : (F : Formula) → Implied F ws ends k → Implied F ws′ ends′ k′
+  pub sound : (F : Formula) → Implied F ws ends k → Justified F trail kinds top → Implied F ws′ ends′ k′
 
 -- the trail after a conflict: some of its first literals, and what follows from the first k clauses
 pub record Backjumped (ws ends : List ℕ) (k : ℕ) (trail kinds : List ℕ) (top : ℕ) (values′ trail′ kinds′ : List ℕ) (top′ : ℕ) : Type 0 where

@@ -5,7 +5,7 @@ ghost use Rattle.sat_laws.specs.Formulas.{WellFormed};
 ghost use Rattle.sat_laws.specs.Trails.{Consistent};
 ghost use Rattle.sat_laws.specs.Steps.{Backjumped, Reduced};
 
-use sat_clauses::{compact, drop_worse};
+use sat_clauses::{compact, length_kept};
 use sat_propagation::{infer, watch_all};
 use sat_trail::{DECISION_LEVEL, LEARNT, Places, SPAN, cut_back, noted};
 
@@ -61,8 +61,8 @@ pub fn reduce(
     if noted(notes, DECISION_LEVEL, 0) > 0 || noted(notes, LEARNT, 0) < noted(notes, SPAN, 0) {
         return clauses;
     }
-    drop_worse(notes, places, given, clauses);
-    let left = compact(words, ends, notes, places, given, clauses, values.len());
+    let most = length_kept(ends, notes, given, clauses);
+    let left = compact(words, ends, most, given, clauses, values.len());
     watch_all(words, ends, left, values, notes, places);
     left
 }

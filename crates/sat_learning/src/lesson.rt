@@ -7,9 +7,9 @@ ghost use Rattle.sat_laws.specs.Steps.{Analyzed};
 use crate::analysis::analyze;
 use crate::learnt_clause::learn;
 use crate::marks::clear;
-use crate::minimization::minimize;
+use crate::minimization::{drop_undecided, minimize};
 use crate::restarts::backjump_place;
-use sat_clauses::DROPPED;
+use sat_clauses::FULL;
 use sat_trail::{DECISION_LEVEL, LEARNT, Places, note, noted};
 
 // Learns from a false clause. Says how many clauses are held then, and up to which place the trail is kept, or none where
@@ -20,6 +20,7 @@ pub fn study(
     clauses: usize,
     values: &[u32],
     trail: &[u32],
+    kinds: &[u32],
     marks: &mut [u32],
     notes: &mut [u32],
     places: &Places,
@@ -30,8 +31,9 @@ pub fn study(
     requires few { length values.now ≤ 32768 }
     requires small { (v : ℕ) → slice_index values.now v ≤ 2 }
     requires on_trail { top ≤ length trail.now }
+    requires with_kinds { top ≤ length kinds.now }
     requires held { conflict < clauses }
-    ensures analyzed { Analyzed words.old ends.old clauses (length values.now) words.new ends.new result.0 }
+    ensures analyzed { Analyzed words.old ends.old clauses (length values.now) trail.now kinds.now top words.new ends.new result.0 }
     ensures on_trail { IfSome result.1 (λ to. to ≤ top) }
 {
     clear(marks);
@@ -40,12 +42,13 @@ pub fn study(
     ) {
         return (clauses, None);
     }
+    drop_undecided(values, trail, kinds, marks, top);
     minimize(
         words, ends, clauses, values, trail, marks, notes, places, top,
     );
     let more = learn(words, ends, clauses, values, marks);
     if more == clauses {
-        note(notes, LEARNT, 0, DROPPED);
+        note(notes, LEARNT, 0, FULL);
         note(notes, DECISION_LEVEL, 0, 0);
         let to = noted(notes, places.decision, 0) as usize;
         return (more, Some(to.min(top)));

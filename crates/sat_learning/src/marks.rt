@@ -34,10 +34,10 @@ fn bump(notes: &mut [u32], places: &Places, variable: usize, variables: usize) {
     note(notes, places.activity, variable, activity);
     if activity > 2000000000 {
         for v in 0..variables {
-            let less = noted(notes, places.activity, v) / 65536;
+            let less = noted(notes, places.activity, v) / 16;
             note(notes, places.activity, v, less);
         }
-        note(notes, ACTIVITY_STEP, 0, (step / 65536).max(1));
+        note(notes, ACTIVITY_STEP, 0, (step / 16).max(1));
     }
 }
 

@@ -1,6 +1,8 @@
-// Minimization: a marked variable whose value follows from those of other marked ones is taken out of the clause to be learnt.
+// Minimization: a marked variable whose value follows from those of other marked ones, or needs no decision, is taken out of the
+// clause to be learnt.
 
 ghost use Rattle.std.specs.Prelude.{◌≡◌, ◌≤◌, true, length};
+ghost use Rattle.sat_laws.specs.Trails.{Justified};
 ghost use Rattle.sat_laws.specs.Formulas.{Formula, Implied, WellFormed};
 ghost use Rattle.sat_laws.specs.Steps.{Covered, Apart};
 
@@ -56,6 +58,31 @@ pub(crate) fn minimize(
         let start = ends[reason - 1] as usize;
         let end = ends[reason] as usize;
         if !covered(words, values, marks, start, end, l) {
+            continue;
+        }
+        marks[v] = 0;
+    }
+}
+
+// Takes the marks off the variables whose values need no decision.
+pub(crate) fn drop_undecided(
+    values: &[u32],
+    trail: &[u32],
+    kinds: &[u32],
+    marks: &mut [u32],
+    top: usize,
+)
+    requires on_trail { top ≤ length trail.now }
+    requires with_kinds { top ≤ length kinds.now }
+    ensures apart { (F : Formula) → Justified F trail.now kinds.now top → Apart F values.now marks.old → Apart F values.now marks.new }
+{
+    for i in 0..top {
+        if kinds[i] == 1 {
+            return;
+        }
+        let l = trail[i];
+        let v = (l / 2) as usize;
+        if v >= marks.len() || value(values, l) != 1 + l % 2 {
             continue;
         }
         marks[v] = 0;

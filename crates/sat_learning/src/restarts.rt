@@ -5,8 +5,7 @@ ghost use Rattle.std.specs.Prelude.{◌≤◌};
 use sat_clauses::literal;
 use sat_propagation::watch_clause;
 use sat_trail::{
-    ACTIVITY_STEP, CONFLICTS, DECISION_LEVEL, Places, RESTART_PHASE, RESTART_RUN, ROUND, note,
-    noted,
+    ACTIVITY_STEP, CONFLICTS, DECISION_LEVEL, Places, RESTART_PHASE, RESTART_RUN, note, noted,
 };
 
 // Counts a conflict, and says whether the search is to start again from the first decision.
@@ -30,15 +29,6 @@ fn restarts(notes: &mut [u32]) -> bool {
     true
 }
 
-// Stamps the level, and says whether it is new in this round.
-fn stamps(notes: &mut [u32], places: &Places, level: u32, round: u32) -> bool {
-    if noted(notes, places.stamp, level as usize) == round {
-        return false;
-    }
-    note(notes, places.stamp, level as usize, round);
-    true
-}
-
 // Watches the learnt clause in its two last literals, and says up to which place the trail is kept.
 pub(crate) fn backjump_place(
     words: &[u32],
@@ -51,9 +41,6 @@ pub(crate) fn backjump_place(
 ) -> usize
     ensures on_trail { result ≤ top }
 {
-    let round = noted(notes, ROUND, 0).wrapping_add(1);
-    note(notes, ROUND, 0, round);
-    let mut glue: u32 = 0;
     let mut last: u32 = 0;
     let mut last_at: u32 = 0;
     let mut second: u32 = 0;
@@ -61,9 +48,6 @@ pub(crate) fn backjump_place(
     for place in start..end {
         let l = literal(words, place);
         let level = noted(notes, places.level, (l / 2) as usize).saturating_add(1);
-        if stamps(notes, places, level, round) {
-            glue = glue.saturating_add(1);
-        }
         let at = (place - start).min(65535) as u32;
         if level > last {
             second = last;
@@ -75,12 +59,6 @@ pub(crate) fn backjump_place(
             second_at = at;
         }
     }
-    note(
-        notes,
-        places.glue,
-        clause.wrapping_sub(places.given as usize),
-        glue,
-    );
     if start.wrapping_add(1) < end {
         watch_clause(words, notes, places, clause, start, last_at, second_at);
     }

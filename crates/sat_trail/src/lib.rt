@@ -6,6 +6,6 @@ mod trail;
 
 pub use notes::{
     ACTIVITY_STEP, CONFLICTS, DECISION_LEVEL, LEARNT, OPEN, Places, RESTART_PHASE, RESTART_RUN,
-    ROUND, SPAN, TALLY, TALLY_LENGTH, note, noted,
+    SPAN, TALLY, TALLY_LENGTH, note, noted,
 };
 pub use trail::{backtrack, complement, cut_back, decide, push, value};

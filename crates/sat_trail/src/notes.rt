@@ -14,17 +14,15 @@ pub const RESTART_RUN: u32 = 4; // two numbers that say how long the search runs
 
 pub const RESTART_PHASE: u32 = 5;
 
-pub const ROUND: u32 = 6; // counts the learnt clauses, to stamp levels
-
 pub const LEARNT: u32 = 7; // clauses learnt since the last reduction
 
 pub const SPAN: u32 = 8; // how many are to be learnt before the next
 
-pub const TALLY: u32 = 16; // by glue: how many learnt clauses have it
+pub const TALLY: u32 = 16; // by length: how many learnt clauses have it
 
 pub const TALLY_LENGTH: u32 = 64;
 
-// Where the other parts of the notes begin, and how many clauses were given.
+// Where the other parts of the notes begin.
 #[derive(Clone, Copy)]
 pub struct Places {
     pub level: u32, // by variable: the level at which it got its value
@@ -33,10 +31,7 @@ pub struct Places {
     pub phase: u32, // by variable: its last value
     pub first_watch: u32, // by literal: the first node that watches it, plus one, or 0
     pub decision: u32, // by level: the place of its decision on the trail
-    pub stamp: u32, // by level: the last round that met it
     pub node: u32, // two by clause: the next node in the high half, the place in the clause in the low half
-    pub glue: u32, // by learnt clause: its number of levels when it was learnt
-    pub given: u32, // how many clauses were given
 }
 
 // The note in a place, and 0 past the end.
