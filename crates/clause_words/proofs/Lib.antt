@@ -1,2 +1,3 @@
-mod Stored
-mod Models
+pub mod Stored
+pub mod Models
+pub mod WellFormed

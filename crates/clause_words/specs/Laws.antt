@@ -16,26 +16,20 @@ fits_front w e xs ys h =
     record { clauses = omega (arith, h.clauses); literals = omega (arith, h.literals); few = omega (arith, h.few); small = λ k′ d lt. subst (All IsSmall) (get_or_append_left xs ys d k′ lt) (h.small k′ d (omega arith)) }
 
 pub stores_nothing : (s : ClauseWords) → StoresMore s [] s
-stores_nothing s = record {
-  same_words = refl;
-  same_ends = refl;
-  as_many_words = refl;
-  as_many_ends = refl;
-  stored = λ xs h f. subst (Stores s.words.now s.ends.now s.clauses) (sym (append-nil xs)) h;
-}
+stores_nothing s = (refl, refl, refl, refl, λ xs h f. subst (Stores s.words.now s.ends.now s.clauses) (sym (append-nil xs)) h)
 
 pub stores_more : (s t u : ClauseWords) (xs ys : List Clause) → StoresMore s xs t → StoresMore t ys u → StoresMore s (xs ++ ys) u
-stores_more s t u xs ys h k = record {
-  same_words = k.same_words ∙ h.same_words;
-  same_ends = k.same_ends ∙ h.same_ends;
-  as_many_words = k.as_many_words ∙ h.as_many_words;
-  as_many_ends = k.as_many_ends ∙ h.as_many_ends;
-  stored = λ zs a f.
+stores_more s t u xs ys h k = (
+  k.0 ∙ h.0,
+  k.1 ∙ h.1,
+  k.2 ∙ h.2,
+  k.3 ∙ h.3,
+  λ zs a f.
       let e = append_assoc zs xs ys in
       let g : Fits (length s.words.now) (length s.ends.now) ((zs ++ xs) ++ ys) = subst (Fits (length s.words.now) (length s.ends.now)) (sym e) f in
-      let b = h.stored zs a (fits_front _ _ (zs ++ xs) ys g) in
+      let b = h.4 zs a (fits_front _ _ (zs ++ xs) ys g) in
       let g′ : Fits (length t.words.now) (length t.ends.now) ((zs ++ xs) ++ ys) =
-      subst (λ n. Fits (length t.words.now) n ((zs ++ xs) ++ ys)) (sym h.as_many_ends)
-      (subst (λ n. Fits n (length s.ends.now) ((zs ++ xs) ++ ys)) (sym h.as_many_words) g) in
-      subst (Stores u.words.now u.ends.now u.clauses) e (k.stored (zs ++ xs) b g′);
-}
+      subst (λ n. Fits (length t.words.now) n ((zs ++ xs) ++ ys)) (sym h.3)
+      (subst (λ n. Fits n (length s.ends.now) ((zs ++ xs) ++ ys)) (sym h.2) g) in
+      subst (Stores u.words.now u.ends.now u.clauses) e (k.4 (zs ++ xs) b g′),
+)

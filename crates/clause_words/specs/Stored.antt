@@ -19,10 +19,11 @@ pub record Fits (words ends : ℕ) (cs : List Clause) : Type 0 where
   pub small : All (All IsSmall) cs
 
 -- t holds the clauses behind those that s holds, if there is room for them, in the same two slices
-pub record StoresMore (s : ClauseWords) (cs : List Clause) (t : ClauseWords) : Type 0 where
-  pub same_words : t.words.ghost_name ≡ s.words.ghost_name
-  pub same_ends : t.ends.ghost_name ≡ s.ends.ghost_name
-  pub as_many_words : length t.words.now ≡ length s.words.now
-  pub as_many_ends : length t.ends.now ≡ length s.ends.now
-  pub stored : (xs : List Clause) → Stores s.words.now s.ends.now s.clauses xs
-      → Fits (length s.words.now) (length s.ends.now) (xs ++ cs) → Stores t.words.now t.ends.now t.clauses (xs ++ cs)
+abbrev pub StoresMore : ClauseWords → List Clause → ClauseWords → Type 0
+StoresMore s cs t =
+    (t.words.ghost_name ≡ s.words.ghost_name)
+    × (t.ends.ghost_name ≡ s.ends.ghost_name)
+    × (length t.words.now ≡ length s.words.now)
+    × (length t.ends.now ≡ length s.ends.now)
+    × ((xs : List Clause) → Stores s.words.now s.ends.now s.clauses xs → Fits (length s.words.now) (length s.ends.now) (xs ++ cs)
+    → Stores t.words.now t.ends.now t.clauses (xs ++ cs))

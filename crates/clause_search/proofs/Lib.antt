@@ -1,0 +1,3 @@
+mod Room
+mod Asked
+mod None
