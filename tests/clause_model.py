@@ -8,7 +8,8 @@
   clause_model.py --random N SEED         runs the built program on N random commands on clauses and compares each answer
   clause_model.py --cadical N SEED        N random questions with up to three inputs and three gates: cadical's verdict on the
                                           program's text is that of `ask`, and cadical's model, handed back through `network`,
-                                          is accepted by `examine`
+                                          is accepted by `examine`, and so is the network that `ask` gives
+  clause_model.py --cadical N SEED I R    the same with up to I inputs and R gates; left out where cadical takes more than 20 s
 
 The model is written from the rules in docs/ alone. It first lists the variables by what they say, in their order, and numbers
 them by counting; the clauses are lists of such variables. It writes and reads assignments by the same list.
@@ -377,9 +378,15 @@ def compare_random(count, seed):
     return 0 if place == len(got) else 1
 
 
+class Stopped(Exception):
+    """cadical was stopped."""
+
+
 def solve(clauses_text):
-    """cadical's model as digits, or None."""
-    done = subprocess.run(["cadical", "-q"], input=clauses_text, capture_output=True, text=True)
+    """cadical's model as digits, None if there is none; Stopped if it takes more than 20 seconds."""
+    done = subprocess.run(["cadical", "-q", "-t", "20"], input=clauses_text, capture_output=True, text=True)
+    if done.returncode == 0:
+        raise Stopped
     if done.returncode == 20:
         return None
     assert done.returncode == 10, done
@@ -387,11 +394,11 @@ def solve(clauses_text):
     return "".join("1" if literal > 0 else "0" for literal in literals if literal)
 
 
-def compare_cadical(count, seed):
+def compare_cadical(count, seed, inputs=3, most=3):
     rng = random.Random(seed)
-    found = 0
+    found = stopped = 0
     for i in range(count):
-        n, r = rng.randrange(4), rng.randrange(4)
+        n, r = rng.randrange(inputs + 1), rng.randrange(most + 1)
         depth, fan_out = rng.choice((0, 1, 2, 3, 7)), rng.choice((1, 2, 3, 5, 19))
         table = rng.randrange(2**2**n)
         if rng.random() < 0.4:
@@ -402,19 +409,24 @@ def compare_cadical(count, seed):
         words = f"{n} {table:x} {depth} {fan_out} {r}"
         written = run_program([f"clauses {words}\n"])
         asked = run_program([f"ask {words}\n"])
-        digits = solve(written)
+        try:
+            digits = solve(written)
+        except Stopped:
+            stopped += 1
+            continue
         if (digits is None) != (asked == "ask: none\n"):
             print(f"{words}: {asked.strip()}, cadical {'none' if digits is None else 'found'}")
             return 1
         if digits is None:
             continue
-        network = run_program([f"network {words} {digits}\n"]).split()[-1]
-        examined = run_program([f"examine {n} {table:x} {depth} {fan_out} {network}\n"])
-        if not examined.startswith("examine: level"):
-            print(f"{words}: {network} is {examined.strip()}")
-            return 1
+        for answer in (run_program([f"network {words} {digits}\n"]), asked):
+            network = answer.split()[-1]
+            examined = run_program([f"examine {n} {table:x} {depth} {fan_out} {network}\n"])
+            if not examined.startswith("examine: level") or network.count(".") > 2 * r:
+                print(f"{words}: {network} is {examined.strip()}")
+                return 1
         found += 1
-    print(f"{count} questions, {found} of them found; cadical agrees with ask, and examine accepts each of its networks")
+    print(f"{count} questions, {found} of them found, cadical stopped on {stopped}; else cadical agrees with ask, and examine accepts each of their networks")
     return 0
 
 
@@ -439,8 +451,8 @@ def main(words):
         return check_stored()
     if words[:1] == ["--random"] and len(words) == 3:
         return compare_random(int(words[1]), int(words[2]))
-    if words[:1] == ["--cadical"] and len(words) == 3:
-        return compare_cadical(int(words[1]), int(words[2]))
+    if words[:1] == ["--cadical"] and len(words) in (3, 5):
+        return compare_cadical(*map(int, words[1:]))
     print(__doc__)
     return 2
 

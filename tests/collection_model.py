@@ -14,7 +14,7 @@
   collection_model.py --minima          compares the least numbers of gates with those that other ways of counting give
 
   --program PATH   the program that is run, in place of crates/kegbirun/out/kegbirun
-  --reach R        the reach of the collection's search, in place of 4
+  --reach R        the reach of the collection's search, in place of 7
   --keep FOLDER    the folder for script, answers and files, in place of one that is removed
 
 What has to be answered is in collection_rules.py.
@@ -604,7 +604,7 @@ def main():
     modes.add_argument("--check", nargs="*")
     modes.add_argument("--minima", action="store_true")
     parser.add_argument("--program", type=os.path.abspath, default=PROGRAM)
-    parser.add_argument("--reach", type=int, default=4)
+    parser.add_argument("--reach", type=int, default=7)
     parser.add_argument("--keep")
     options = parser.parse_args()
     runs = {"random": random_run, "keys": keys_run, "check": check_run, "minima": minima_run}

@@ -338,7 +338,7 @@ def key(question):
 class Collection:
     """The entries, and what the commands answer."""
 
-    def __init__(self, reach=4, folder="."):
+    def __init__(self, reach=7, folder="."):
         self.reach, self.folder = reach, folder
         self.entries = {}
         self.exported = {}

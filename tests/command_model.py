@@ -156,7 +156,7 @@ def representative(n, table):
     return f"{min(min(carried), 0xffff - max(carried)):04x}"
 
 
-REACH = 4
+REACH = 7
 TRIED = 2
 
 
@@ -334,7 +334,7 @@ def random_ask(rng):
     except Refused:
         table = rng.randrange(2 ** (2 ** min(n, 4)) + 1)
     depth, fan_out = rng.choice([0, 1, 2, 2, 3, 7, 8]), rng.choice([0, 1, 1, 2, 3, 19, 20])
-    return f"ask {n} {table:x} {depth} {fan_out} {rng.choice([0, 1, 2, 2, 2, 5, 8])}"
+    return f"ask {n} {table:x} {depth} {fan_out} {rng.choice([0, 1, 2, 2, 2, 8, 9])}"
 
 
 def random_command(rng):
@@ -488,8 +488,9 @@ ask 3 100 7 19 4
 ask 3 80 8 19 4
 ask 3 80 7 0 4
 ask 3 80 7 20 4
-ask 3 80 7 19 5
-ask 3 80 8 20 5
+ask 3 80 7 19 7
+ask 3 80 7 19 8
+ask 3 80 8 20 8
 ask 3 80 7 19 300
 # lines that cannot be read
 ask 3 80 7 19

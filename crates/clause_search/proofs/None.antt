@@ -1,6 +1,5 @@
 -- What it means that no assignment satisfies the clauses of any number of gates up to a limit.
-use Rattle.std.proofs.Common.{◌≡◌, ℕ, ◌+◌, ◌<◌, map, ⊎_elim, subst, sym, arith}
-use Rattle.std.proofs.lemmas.Bool.{cases_eq}
+use Rattle.std.proofs.Common.{ℕ, ◌+◌, ◌<◌, map, arith}
 use Rattle.mig.specs.declared.question.Question.{Question}
 use Rattle.mig.specs.Questions.{Valid}
 use Rattle.search.specs.Meaning.{NoneWithin}
@@ -14,7 +13,3 @@ pub none_within : (q : Question) (r : ℕ) → Valid q → ((k : ℕ) → k < r 
 none_within q r valid none net meets few =
     let w = network_satisfies q r net valid.some_fan_out few meets in
     none w.0 (omega (arith, w.1)) (map w.2.0 (question_variables q w.0)) (exact_bits_hold q w.0 w.2.0 valid.some_fan_out w.2.1)
-
--- one number of gates more
-pub one_more : (q : Question) (k : ℕ) → ((r : ℕ) → r < k → NoAssignment q r) → NoAssignment q k → (r : ℕ) → r < k + 1 → NoAssignment q r
-one_more q k before here r l = ⊎_elim (λ (e : r ≡ k). subst (NoAssignment q) (sym e) here) (λ (ne : r ≡ k → ⊥). before r (omega arith)) (cases_eq r k)

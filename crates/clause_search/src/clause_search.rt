@@ -8,7 +8,7 @@ use crate::exact::exact_network;
 use mig::{Network, Question, Refusal};
 use search::{Count, Search};
 
-// A search that writes the clauses of a question into the work words and has them solved, for one number of gates after another.
+// A search that writes the clauses of a question into the work words and has them solved, for one number of gates after another, the greatest first.
 // It counts the questions that it has taken.
 #[derive(Drop)]
 pub struct ClauseSearch {
@@ -26,8 +26,8 @@ impl ClauseSearch {
     }
 }
 
-// A network of at most so many gates that meets the question.
-fn smallest_network(
+// A network of at most so many gates that meets the question. Where so many gates are the fewest, as in an order, that is asked first.
+fn network_within(
     question: &Question,
     gates: u8,
     words: &mut [u32],
@@ -36,8 +36,8 @@ fn smallest_network(
     ensures not_refused { refused_by result ≡ None }
     ensures found_exactly_when_a_network_exists { IfOk result (FoundUpTo question.now gates) }
 {
-    for size in 0..gates + 1 {
-        let found = exact_network(question, size, words)?;
+    for fewer in 0..gates + 1 {
+        let found = exact_network(question, gates - fewer, words)?;
         if found.is_some() {
             return Ok(found);
         }
@@ -78,7 +78,7 @@ impl Search for ClauseSearch {
     ) -> Result<bool, Refusal> {
         self.check(question, gates, words.len())?;
         self.count.raise();
-        let found = smallest_network(question, gates, words)?;
+        let found = network_within(question, gates, words)?;
         if let Some(network) = found {
             *place = network;
         }

@@ -1,6 +1,6 @@
 // The commands: how they are read, and how they are answered.
 use crate::answers::Answer;
-use crate::interpreter::{Interpreter, asked};
+use crate::interpreter::Interpreter;
 use crate::words::{Unreadable, next};
 use classes::representative;
 use collection_laws::{Call, Opening};
@@ -157,7 +157,7 @@ impl<'a> Command<'a> {
             Command::Representative(inputs, table) => {
                 Answer::Represented(representative(inputs, table)?)
             }
-            Command::Ask(question, gates) => Answer::Asked(asked(&question, gates)?),
+            Command::Ask(question, gates) => Answer::Asked(interpreter.ask(&question, gates)?),
             Command::Open(opening) => Answer::Opened(interpreter.open(opening)),
             Command::Order(question, gates) => {
                 Answer::Called(interpreter.call(Call::Order { question, gates })?)

@@ -2,6 +2,7 @@
 use assignment_reader::read_assignment;
 use assignment_writer::write_assignment;
 use bound_layer::BoundLayer;
+use clause_search::ClauseSearch;
 use clause_text::clause_text;
 use collection::Collection;
 use collection_laws::{Answer, Call, Opening};
@@ -9,13 +10,17 @@ use enumeration::Enumeration;
 use mig::{Network, Question, Refusal};
 use runs::{open, run};
 use search::Search;
+use split_search::Split;
 
 // The search that is delivered.
-type Delivered = BoundLayer<Enumeration>;
+type Delivered = BoundLayer<Split<Enumeration, ClauseSearch>>;
 
 fn delivered() -> Delivered {
-    BoundLayer::new(Enumeration::new())
+    BoundLayer::new(Split::new(Enumeration::new(), ClauseSearch::new()))
 }
+
+// How many work words the search that is delivered needs.
+const WORK_WORDS: usize = 131072;
 
 // The longest clause text has fewer bytes, and so has every export: at most 64 records of seven gates.
 const BUFFER_BYTES: usize = 1 << 18;
@@ -23,6 +28,7 @@ const BUFFER_BYTES: usize = 1 << 18;
 #[derive(Drop)]
 pub(crate) struct Interpreter {
     collection: Collection<Delivered>,
+    words: [u32; WORK_WORDS],
     buffer: [u8; BUFFER_BYTES],
 }
 
@@ -30,6 +36,7 @@ impl Interpreter {
     pub(crate) fn new() -> Interpreter {
         Interpreter {
             collection: open(delivered(), Opening::Empty),
+            words: [0; WORK_WORDS],
             buffer: [0; BUFFER_BYTES],
         }
     }
@@ -47,7 +54,7 @@ impl Interpreter {
             &mut self.collection,
             &[call],
             &mut replies,
-            &mut [],
+            &mut self.words,
             &mut self.buffer,
         );
         replies[0]
@@ -89,11 +96,15 @@ impl Interpreter {
     pub(crate) fn written(&self, bytes: usize) -> &[u8] {
         &self.buffer[..bytes.min(BUFFER_BYTES)]
     }
-}
 
-// A network of at most `gates` gates that meets the question, none if there is none.
-pub(crate) fn asked(question: &Question, gates: u8) -> Result<Option<Network>, Refusal> {
-    let mut place = Network::default();
-    let found = delivered().ask(question, gates, &mut place, &mut [])?;
-    Ok(found.then_some(place))
+    // A network of at most `gates` gates that meets the question, none if there is none.
+    pub(crate) fn ask(
+        &mut self,
+        question: &Question,
+        gates: u8,
+    ) -> Result<Option<Network>, Refusal> {
+        let mut place = Network::default();
+        let found = delivered().ask(question, gates, &mut place, &mut self.words)?;
+        Ok(found.then_some(place))
+    }
 }
