@@ -17,10 +17,10 @@ use Rattle.canonical_laws.proofs.Fronts.{exchanged, exchanged_meets}
 use Rattle.canonical_laws.proofs.Removed.{Smaller, Removable, removed}
 
 -- the network with each gate made canonical
-abbrev canonical_gates : Net → Net
+abbrev pub canonical_gates : Net → Net
 canonical_gates net = exchanged (λ j. j) [] net.gates net.output
 
-canonical_gates_meets : (q : Question) (net : Net) → Meets q net → Meets q (canonical_gates net)
+pub canonical_gates_meets : (q : Question) (net : Net) → Meets q net → Meets q (canonical_gates net)
 unfolding Ordered uses_in
 canonical_gates_meets q net h =
     exchanged_meets q (λ j. Unit {0}) (λ j. j) [] [] net.gates net.output
@@ -33,7 +33,7 @@ canonical_gates_meets q net h =
     })
     (All-from_get_or _ net.gates empty_gate (λ i l. (tt, tt, tt))) tt h
 
-canonical_gates_canonical : (net : Net) → Normal net → All (CanonicalGate 0) (canonical_gates net).gates
+pub canonical_gates_canonical : (net : Net) → Normal net → All (CanonicalGate 0) (canonical_gates net).gates
 canonical_gates_canonical net h =
     All-map (CanonicalGate 0) (renumber_gate (λ j. j)) net.gates
     (All-from_get_or _ net.gates empty_gate (λ i l. renumber_gate_canonical (λ j. j) (gate_at net i) (h i l)))

@@ -11,13 +11,18 @@ use Rattle.canonical_laws.specs.Canonical.{CanonicalGate}
 abbrev pub gate_uses : ℕ → Gate → ℕ
 gate_uses j g = names j g.first + names j g.second + names j g.third
 
+-- what the nodes of a gate weigh together, where the node j weighs w j
+abbrev pub weight : (ℕ → ℕ) → Gate → ℕ
+weight w g = w (node g.first) + w (node g.second) + w (node g.third)
+
 -- the gate g' does what g does: where the constant is 0 it has the same bit and no greater level; it uses no node but the
--- constant more often; it names earlier nodes only if g does
+-- constant more often; it names earlier nodes only if g does; where no node weighs less than the constant, it weighs no more
 pub record Replaces (g g' : Gate) : Type 0 where
   pub bit : (vs : List Bool) → get_or vs 0 false ≡ false → gate_value bits vs g' ≡ gate_value bits vs g
   pub level : (ls : List ℕ) → get_or ls 0 0 ≡ 0 → gate_value levels ls g' ≤ gate_value levels ls g
   pub uses : (j : ℕ) → 0 < j → gate_uses j g' ≤ gate_uses j g
   pub below : (m : ℕ) → 0 < m → GateBelow m g → GateBelow m g'
+  pub lighter : (w : ℕ → ℕ) → ((j : ℕ) → w 0 ≤ w j) → weight w g' ≤ weight w g
 
 -- a replacement that is canonical if at most one fan-in is complemented
 abbrev Replacement : Gate → Type 0
@@ -61,6 +66,7 @@ swapped a b c (g, h, canonical) = (
     level = λ ls o. let l = h.level ls o in omega arith;
     uses = λ j o. let l = h.uses j o in omega arith;
     below = λ m o l. h.below m o (l.1, l.0, l.2);
+    lighter = λ w o. let l = h.lighter w o in omega arith;
   },
   λ l. canonical (omega arith),
 )
@@ -73,6 +79,7 @@ turned a b c (g, h, canonical) = (
     level = λ ls o. let l = h.level ls o in omega arith;
     uses = λ j o. let l = h.uses j o in omega arith;
     below = λ m o l. h.below m o (l.0, l.2, l.1);
+    lighter = λ w o. let l = h.lighter w o in omega arith;
   },
   λ l. canonical (omega arith),
 )
@@ -87,6 +94,7 @@ buffered a b c value plain = (
     level = λ ls o. rw (level_at ls a, o) (omega arith);
     uses = λ j o. rw (ne_eqb 0 j (omega arith)) (omega arith);
     below = λ m o l. (o, o, l.0);
+    lighter = λ w o. omega (arith, o (node b), o (node c));
   },
   λ l. let p = plain l in record {
     once = rw p (omega arith);
@@ -143,7 +151,7 @@ sorted a b c p q = at (cases_eq (node a) (node b)) (cases_eq (node b) (node c))
     at (inr d) (inl e) = swapped a b c (turned b a c (pair b c a e))
     at (inr d) (inr e) = (
       gate a b c,
-      record { bit = λ vs o. refl; level = λ ls o. omega arith; uses = λ j o. omega arith; below = λ m o l. l },
+      record { bit = λ vs o. refl; level = λ ls o. omega arith; uses = λ j o. omega arith; below = λ m o l. l; lighter = λ w o. omega arith },
       λ l. record { once = l; shape = inl (omega arith, omega arith) },
     )
 

@@ -1,9 +1,9 @@
 pub mod Exist
 mod Fronts
-mod Gates
+pub mod Gates
 pub mod Neighbours
 pub mod Pruning
 mod Removed
-mod Renumbered
+pub mod Renumbered
 mod Swapped
 pub mod Uses

@@ -1,4 +1,4 @@
--- What a network meets, a canonical network of at most its size with its neighbours in order meets.
+-- What a network meets, a canonical network of at most its size meets whose keys make the lowest number: its neighbours are in order.
 use Rattle.std.proofs.Common.{◌≡◌, ℕ, zero, suc, ◌+◌, ◌-◌, ◌*◌, ◌<◌, ◌≤◌, ◌⊎◌, List, [], ◌∷◌, ◌++◌, map, length, take, drop, sym, refl, ap, ◌∙◌, subst, inl, inr, arith, length-append}
 use lib.Arith.{digits_lt}
 use lib.ListN.{length-map}
@@ -21,7 +21,7 @@ use Rattle.canonical_laws.proofs.Swapped.{swap, with_two, length_two, swapped_ex
 use Rattle.canonical_laws.proofs.Exist.{all_or_one, canonical_or_smaller, canonical_exists}
 
 -- above the key of every gate that names only nodes below m
-key_bound : (Gate → ℕ) → ℕ → ℕ
+pub key_bound : (Gate → ℕ) → ℕ → ℕ
 key_bound key m =
     1 + greatest (2 * m) (λ a. greatest (2 * m) (λ b. greatest (2 * m) (λ c. key (record { first = a; second = b; third = c }))))
 
@@ -34,17 +34,18 @@ key_below key m g l =
     let z = greatest_above (2 * m) (of g.first g.second) g.third (omega arith) in
     omega arith
 
-keys_below : (key : Gate → ℕ) (m p : ℕ) (gs : List Gate) → Ordered m gs → m + length gs ≤ p → All (λ g. key g < key_bound key p) gs
+pub keys_below : (key : Gate → ℕ) (m p : ℕ) (gs : List Gate) → Ordered m gs → m + length gs ≤ p → All (λ g. key g < key_bound key p) gs
 unfolding Ordered
 keys_below key m p [] o l = tt
 keys_below key m p (g ∷ gs) o l = (key_below key p g (omega arith, omega arith, omega arith), keys_below key (m + 1) p gs o.1 (omega arith))
 
 -- the number whose digits in base b are those of a and then the keys of the gates
-unfoldable key_number : (Gate → ℕ) → ℕ → ℕ → List Gate → ℕ
+unfoldable pub key_number : (Gate → ℕ) → ℕ → ℕ → List Gate → ℕ
 key_number key b a [] = a
 key_number key b a (g ∷ gs) = key_number key b (a * b + key g) gs
 
-number_less : (key : Gate → ℕ) (b a a' : ℕ) (gs gs' : List Gate) → length gs ≡ length gs' → All (λ g. key g < b) gs → a < a' → key_number key b a gs < key_number key b a' gs'
+-- what comes first decides between two such numbers
+pub number_less : (key : Gate → ℕ) (b a a' : ℕ) (gs gs' : List Gate) → length gs ≡ length gs' → All (λ g. key g < b) gs → a < a' → key_number key b a gs < key_number key b a' gs'
 unfolding key_number
 number_less key b a a' [] [] e p l = l
 number_less key b a a' [] (g' ∷ gs') e p l = absurd (omega arith)
@@ -61,13 +62,14 @@ swapped_number key b a [] g h ys ys' e p l = number_less key b (a * b + key h) (
 swapped_number key b a (x ∷ xs) g h ys ys' e p l = swapped_number key b (a * b + key x) xs g h ys ys' e p.1 l
 
 -- a network of canonical gates, as large, that meets the question and whose keys make a lower number
-record LowerKeys (key : Gate → ℕ) (b : ℕ) (q : Question) (net other : Net) : Type 0 where
+pub record LowerKeys (key : Gate → ℕ) (b : ℕ) (q : Question) (net other : Net) : Type 0 where
   pub meets : Meets q other
   pub gates : All (CanonicalGate 0) other.gates
   pub as_large : size other ≡ size net
   pub lower : key_number key b 0 other.gates < key_number key b 0 net.gates
 
-all_canonical_from : (b : ℕ) (gs : List Gate) → AllCanonical b gs → All (CanonicalGate 0) gs
+-- gates that are canonical over some inputs are canonical over none
+pub all_canonical_from : (b : ℕ) (gs : List Gate) → AllCanonical b gs → All (CanonicalGate 0) gs
 unfolding AllCanonical
 all_canonical_from b [] h = tt
 all_canonical_from b (g ∷ gs) h = (record { once = h.0.once; shape = at h.0.shape }, all_canonical_from b gs h.1)
@@ -189,38 +191,51 @@ ordered_or_not key n net =
     each i (inr d) (inl l) = inr (d, l)
     each i (inr d) (inr l) = inl (λ _. l)
 
--- a canonical network with its neighbours in order that meets the question, with no more gates
-abbrev OrderedInstead : (Gate → ℕ) → Question → Net → Type 0
-OrderedInstead key q net = (other : Net) × CanonicalInstead q net other × OrderedNeighbours key q.inputs other
+-- as large a network of canonical gates that meets the question and whose keys make a lower number
+abbrev pub Lower : (Gate → ℕ) → Question → Net → Type 0
+Lower key q net = (other : Net) × LowerKeys key (key_bound key (q.inputs + 1 + size net)) q net other
 
-instead : (key : Gate → ℕ) (q : Question) (net other : Net) → size other ≤ size net → OrderedInstead key q other → OrderedInstead key q net
-instead key q net other l (last, c, o) = (last, record { meets = c.meets; no_larger = omega (arith, c.no_larger); canonical = c.canonical }, o)
-
--- by induction on the number that the keys make, if all smaller networks are dealt with
-by_keys : (key : Gate → ℕ) (q : Question) (s bound : ℕ) (net : Net) → size net ≡ s → key_number key (key_bound key (q.inputs + 1 + s)) 0 net.gates < bound
-    → Meets q net → Canonical q.inputs net → ((smaller : Net) → size smaller < s → Meets q smaller → OrderedInstead key q smaller) → OrderedInstead key q net
-by_keys key q s zero net e l m c again = absurd (omega arith)
-by_keys key q s (suc bound) net e l m c again =
+-- the neighbours are in order of the key, or the keys of another network make a lower number
+pub neighbours_or_lower : (key : Gate → ℕ) (q : Question) (net : Net) → Meets q net → Canonical q.inputs net → OrderedNeighbours key q.inputs net ⊎ Lower key q net
+neighbours_or_lower key q net m c =
     elim (ordered_or_not key q.inputs net) [
-      | inl o ↦ (net, record { meets = m; no_larger = omega arith; canonical = c }, o)
-      | inr (i, b, out) ↦
-          let (other, x) = lower_keys key q net i b out m (all_canonical_from (q.inputs + 1) net.gates c.gates) in
-          let lower = subst (λ (z : ℕ). key_number key (key_bound key (q.inputs + 1 + z)) 0 other.gates < key_number key (key_bound key (q.inputs + 1 + z)) 0 net.gates) e x.lower in
-          elim (canonical_or_smaller q other x.meets x.gates) [
-            | inl d ↦ instead key q net other (omega (arith, x.as_large)) (by_keys key q s bound other (x.as_large ∙ e) (omega arith) x.meets d again)
-            | inr (smaller, p, h) ↦ instead key q net smaller (omega (arith, x.as_large)) (again smaller (omega (arith, x.as_large)) p)
-          ]
+      | inl o ↦ inl o
+      | inr (i, b, out) ↦ inr (lower_keys key q net i b out m (all_canonical_from (q.inputs + 1) net.gates c.gates))
     ]
 
-by_size : (key : Gate → ℕ) (q : Question) (bound : ℕ) (net : Net) → size net < bound → Meets q net → OrderedInstead key q net
-by_size key q zero net l m = absurd (omega arith)
-by_size key q (suc bound) net l m =
-    let (other, c) = canonical_exists q net m in
-    let h = c.no_larger in
-    instead key q net other h
-    (by_keys key q (size other) (key_number key (key_bound key (q.inputs + 1 + size other)) 0 other.gates + 1) other refl (omega arith) c.meets c.canonical
-    (λ smaller b p. by_size key q bound smaller (omega arith) p))
+-- a canonical network with a property that meets the question, with no more gates
+abbrev pub GoodInstead : (Net → Type 0) → Question → Net → Type 0
+GoodInstead Good q net = (other : Net) × CanonicalInstead q net other × Good other
 
--- for every key: what a network meets, a canonical network of at most its size with its neighbours in order meets
-pub ordered_exists : (key : Gate → ℕ) (q : Question) (net : Net) → Meets q net → (other : Net) × CanonicalInstead q net other × OrderedNeighbours key q.inputs other
-ordered_exists key q net m = by_size key q (size net + 1) net (omega arith) m
+-- a property that each canonical network has, or the keys of another network make a lower number
+module _ (key : Gate → ℕ) (q : Question) (Good : Net → Type 0) (good_or_lower : (net : Net) → Meets q net → Canonical q.inputs net → Good net ⊎ Lower key q net) where
+  instead : (net other : Net) → size other ≤ size net → GoodInstead Good q other → GoodInstead Good q net
+  instead net other l (last, c, o) = (last, record { meets = c.meets; no_larger = omega (arith, c.no_larger); canonical = c.canonical }, o)
+
+  -- by induction on the number that the keys make, if all smaller networks are dealt with
+  by_keys : (s bound : ℕ) (net : Net) → size net ≡ s → key_number key (key_bound key (q.inputs + 1 + s)) 0 net.gates < bound
+      → Meets q net → Canonical q.inputs net → ((smaller : Net) → size smaller < s → Meets q smaller → GoodInstead Good q smaller) → GoodInstead Good q net
+  by_keys s zero net e l m c again = absurd (omega arith)
+  by_keys s (suc bound) net e l m c again =
+      elim (good_or_lower net m c) [
+        | inl o ↦ (net, record { meets = m; no_larger = omega arith; canonical = c }, o)
+        | inr (other, x) ↦
+            let lower = subst (λ (z : ℕ). key_number key (key_bound key (q.inputs + 1 + z)) 0 other.gates < key_number key (key_bound key (q.inputs + 1 + z)) 0 net.gates) e x.lower in
+            elim (canonical_or_smaller q other x.meets x.gates) [
+              | inl d ↦ instead net other (omega (arith, x.as_large)) (by_keys s bound other (x.as_large ∙ e) (omega arith) x.meets d again)
+              | inr (smaller, p, h) ↦ instead net smaller (omega (arith, x.as_large)) (again smaller (omega (arith, x.as_large)) p)
+            ]
+      ]
+
+  by_size : (bound : ℕ) (net : Net) → size net < bound → Meets q net → GoodInstead Good q net
+  by_size zero net l m = absurd (omega arith)
+  by_size (suc bound) net l m =
+      let (other, c) = canonical_exists q net m in
+      let h = c.no_larger in
+      instead net other h
+      (by_keys (size other) (key_number key (key_bound key (q.inputs + 1 + size other)) 0 other.gates + 1) other refl (omega arith) c.meets c.canonical
+      (λ smaller b p. by_size bound smaller (omega arith) p))
+
+  -- what a network meets, a canonical network of at most its size with the property meets
+  pub good_exists : (net : Net) → Meets q net → GoodInstead Good q net
+  good_exists net m = by_size (size net + 1) net (omega arith) m

@@ -1,4 +1,5 @@
 pub mod Satisfy
 pub mod Exact
 pub mod Listed
+mod Inputs
 pub mod Numbered

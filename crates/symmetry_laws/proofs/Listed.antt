@@ -10,9 +10,10 @@ use Rattle.cnf.specs.Numbers.{question_variables}
 use Rattle.cnf_laws.proofs.Each.{all_both, all_each}
 use Rattle.cnf_laws.proofs.Contained.{IsListed, has_S, has_N, has_B, has_O}
 use Rattle.cnf_laws.proofs.Listed.{variable_of, IsListedClause, variables_listed}
-use Rattle.symmetry_laws.specs.Symmetry.{no_fall, complements_once, fan_ins_rise, buffers_copy_gates, output_last, gates_named, first_row_zero, neighbours_ordered, symmetry_clauses, exact_clauses}
+use Rattle.symmetry_laws.specs.Inputs.{symmetric_in}
+use Rattle.symmetry_laws.specs.Symmetry.{no_fall, complements_once, fan_ins_rise, buffers_copy_gates, output_last, gates_named, first_row_zero, neighbours_ordered, named_up_to, in_order, inputs_ordered, symmetry_clauses, exact_clauses}
 
-module _ (n d f r : ℕ) where
+module _ (n t d f r : ℕ) where
   abbrev ListedClause : NamedClause → Type 0
   ListedClause c = IsListedClause (variables n d f r) c
 
@@ -78,7 +79,27 @@ module _ (n d f r : ℕ) where
         tt,
       ))))
 
-  symmetry_listed : AllByRecursion ListedClause (symmetry_clauses n r)
+  named_up_to_listed : (a b i c : ℕ) → a < n → b < n → n < i → i < suc n + r → 1 ≤ c → c < 4 → AllByRecursion ListedLiteral (named_up_to n a b i c)
+  named_up_to_listed a b i c l m v w p q = (
+    has_S n d f r i c (suc b) v w p q (omega arith),
+    all_each ListedLiteral (suc n) (i - n) _ (λ j x y.
+        let at = λ (e : ℕ) (p : 1 ≤ e) (q : e < 4). has_S n d f r j e (suc a) x (omega arith) p q (omega arith) in
+        (at 1 (omega arith) (omega arith), (at 2 (omega arith) (omega arith), (at 3 (omega arith) (omega arith), tt)))),
+  )
+
+  in_order_listed : (a b : ℕ) (s : Bool) → a < n → b < n → AllByRecursion ListedClause (cond s (in_order n a b r) [])
+  in_order_listed a b false l m = tt
+  in_order_listed a b true l m =
+      all_each ListedClause (suc n) r _ (λ i v w.
+      let at = λ (c : ℕ) (p : 1 ≤ c) (q : c < 4). named_up_to_listed a b i c l m v w p q in
+      (at 1 (omega arith) (omega arith), (at 2 (omega arith) (omega arith), (at 3 (omega arith) (omega arith), tt))))
+
+  inputs_listed : AllByRecursion ListedClause (inputs_ordered n t r)
+  inputs_listed =
+      all_each ListedClause 0 n _ (λ a v w. all_each ListedClause (suc a) (n - suc a) _ (λ b x y.
+      in_order_listed a b (symmetric_in n t a b) (omega arith) (omega arith)))
+
+  symmetry_listed : AllByRecursion ListedClause (symmetry_clauses n t r)
   unfolding symmetry_clauses
   symmetry_listed =
       all_both ListedClause (complements_once n r) _ complements_listed
@@ -86,14 +107,15 @@ module _ (n d f r : ℕ) where
       (all_both ListedClause (buffers_copy_gates n r) _ buffers_listed
       (all_both ListedClause (output_last n r) _ output_listed
       (all_both ListedClause (gates_named n r) _ named_listed
-      (all_both ListedClause (first_row_zero n r) _ first_row_listed neighbours_listed)))))
+      (all_both ListedClause (first_row_zero n r) _ first_row_listed
+      (all_both ListedClause (neighbours_ordered n r) _ neighbours_listed inputs_listed))))))
 
 -- each variable of the symmetry clauses is one of the variables
-pub symmetry_variables_listed : (n d f r : ℕ) → All (All (λ (l : NamedLiteral). Contains (variables n d f r) (variable_of l))) (symmetry_clauses n r)
-symmetry_variables_listed n d f r =
+pub symmetry_variables_listed : (n t d f r : ℕ) → All (All (λ (l : NamedLiteral). Contains (variables n d f r) (variable_of l))) (symmetry_clauses n t r)
+symmetry_variables_listed n t d f r =
     let P = λ (l : NamedLiteral). Contains (variables n d f r) (variable_of l) in
-    All-weaker (IsListedClause (variables n d f r)) (All P) (λ c. All-from_recursion P c) (symmetry_clauses n r)
-    (All-from_recursion (IsListedClause (variables n d f r)) (symmetry_clauses n r) (symmetry_listed n d f r))
+    All-weaker (IsListedClause (variables n d f r)) (All P) (λ c. All-from_recursion P c) (symmetry_clauses n t r)
+    (All-from_recursion (IsListedClause (variables n d f r)) (symmetry_clauses n t r) (symmetry_listed n t d f r))
 
 -- and so is each variable of the clauses of a question and exactly r gates
 pub exact_variables_listed : (q : Question) (r : ℕ) → 1 ≤ q.limits.fan_out
@@ -103,4 +125,4 @@ exact_variables_listed q r some =
     let d = q.limits.depth in
     let f = q.limits.fan_out in
     All-append (All (λ (l : NamedLiteral). Contains (question_variables q r) (variable_of l)))
-    (clauses_of n q.table d f r) (symmetry_clauses n r) (variables_listed q r some) (symmetry_variables_listed n d f r)
+    (clauses_of n q.table d f r) (symmetry_clauses n q.table r) (variables_listed q r some) (symmetry_variables_listed n q.table d f r)

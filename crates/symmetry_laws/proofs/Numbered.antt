@@ -29,9 +29,9 @@ exact_bits_told q r bits = (decides_clauses (question_number q r) bits (told q r
 
 -- each variable of the symmetry clauses by number is one of those that are numbered
 pub symmetry_variables_numbered : (q : Question) (r : ℕ)
-    → All (All (NamesVariable q r)) (numbered (question_number q r) (symmetry_clauses q.inputs r))
+    → All (All (NamesVariable q r)) (numbered (question_number q r) (symmetry_clauses q.inputs q.table r))
 symmetry_variables_numbered q r =
-    name_by_number q r (symmetry_clauses q.inputs r) (symmetry_variables_listed q.inputs q.limits.depth q.limits.fan_out r)
+    name_by_number q r (symmetry_clauses q.inputs q.table r) (symmetry_variables_listed q.inputs q.table q.limits.depth q.limits.fan_out r)
 
 -- and so is each variable of the clauses of a question and exactly r gates
 pub exact_variables_numbered : (q : Question) (r : ℕ) → 1 ≤ q.limits.fan_out

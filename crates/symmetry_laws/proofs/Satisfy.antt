@@ -1,11 +1,14 @@
--- What the variables say of a canonical network with its neighbours in order satisfies the symmetry clauses.
-use Rattle.std.proofs.Common.{◌≡◌, ℕ, zero, suc, ◌+◌, ◌-◌, ◌<◌, ◌≤◌, Bool, true, false, cond, not, ◌||◌, eqb, ◌⊎◌, List, [], ◌∷◌, length, get_or, refl, sym, ap, ◌∙◌, inl, inr, arith}
-use Rattle.std.proofs.lemmas.Bool.{eq-eqb, ne_eqb, eqb-true, eqb-false, cases_lt}
+-- What the variables say of a canonical network with its neighbours and its inputs in order satisfies the symmetry clauses.
+use Rattle.std.proofs.Common.{◌≡◌, ℕ, zero, suc, ◌+◌, ◌-◌, ◌*◌, ◌^◌, T, subst, ◌<◌, ◌≤◌, Bool, true, false, cond, not, ◌||◌, eqb, ◌⊎◌, List, [], ◌∷◌, length, get_or, refl, sym, ap, ◌∙◌, inl, inr, arith}
+use native.Mathlib.Nat.{pow-succ', pow-zero}
+use Rattle.std.proofs.lemmas.Nat.{pow_below, pow_pos}
+use Rattle.std.proofs.lemmas.Bool.{eq-eqb, ne_eqb, eqb-true, eqb-false, cases_lt, cases_eq}
 use Rattle.mig.specs.declared.network.Gate.{Gate}
 use Rattle.mig.specs.Networks.{Net, size, node, complemented, names, majority, empty_gate, value_at, walk, bits, Formed}
 use Rattle.mig.specs.Questions.{row_start}
 use Rattle.mig_laws.proofs.RowBits.{get_or-input_bits}
 use Rattle.mig_laws.proofs.Walks.{walk_keeps}
+use Rattle.canonical_laws.proofs.Gates.{gate_uses}
 use Rattle.canonical_laws.specs.Canonical.{Rising, Buffer, CanonicalGate, AllCanonical, Canonical}
 use Rattle.canonical_laws.specs.Neighbours.{OrderedNeighbours}
 use Rattle.cnf.specs.Variables.{Var, S, N, O, pos, each}
@@ -14,7 +17,9 @@ use Rattle.cnf_laws.proofs.Satisfied.{satisfies_both, satisfies_each, satisfies_
 use Rattle.cnf_laws.proofs.Literals.{one_met, not_both_met}
 use Rattle.cnf_laws.proofs.Equations.{length-row_start, gate_equation, gate_below}
 use Rattle.cnf_laws.proofs.Uses.{count-append, count_uses}
-use Rattle.symmetry_laws.specs.Symmetry.{third_node, no_fall, naming, complements_once, fan_ins_rise, buffers_copy_gates, output_last, gates_named, first_row_zero, neighbours_ordered, symmetry_clauses}
+use Rattle.symmetry_laws.specs.Symmetry.{no_fall, naming, named_up_to, in_order, complements_once, fan_ins_rise, buffers_copy_gates, output_last, gates_named, first_row_zero, neighbours_ordered, inputs_ordered, symmetry_clauses}
+use Rattle.symmetry_laws.specs.Inputs.{symmetric_in}
+use Rattle.symmetry_laws.proofs.Inputs.{nodes_key, InputsInOrder}
 
 -- the gates of a canonical network, one by one
 canonical_at : (b : ℕ) (gs : List Gate) (p : ℕ) → AllCanonical b gs → p < length gs → CanonicalGate b (get_or gs p empty_gate)
@@ -67,6 +72,59 @@ some_names s j a zero h = absurd (omega arith)
 some_names s j a (suc m) h =
     one_of_three (s (S a 1 j)) (s (S a 2 j)) (s (S a 3 j)) (some_holds s (each (suc a) m (naming j))) (count s (naming_variables j (suc a) m))
     (some_names s j (suc a) m) h
+
+-- a literal does not hold, or the rest does
+holds_or : (x y : Bool) → (x ≡ true → y ≡ true) → (not x || y) ≡ true
+holds_or x y h = grind arith
+
+-- one of three holds
+one_named : (x y z : Bool) → 1 ≤ cond x 1 0 + cond y 1 0 + cond z 1 0 → (x || (y || z)) ≡ true
+one_named true y z l = refl
+one_named false true z l = refl
+one_named false false true l = refl
+one_named false false false l = absurd (omega arith)
+
+-- where one of m gates from the node a on names j, the clause of all that name it holds
+some_gate_names : (s : Assignment) (j a m k : ℕ) → a ≤ k → k < a + m → (s (S k 1 j) || (s (S k 2 j) || s (S k 3 j))) ≡ true
+    → some_holds s (each a m (naming j)) ≡ true
+unfolding each
+some_gate_names s j a zero k l u h = absurd (omega arith)
+some_gate_names s j a (suc m) k l u h =
+    elim (cases_eq a k) [
+      | inl e ↦
+          three_or (s (S a 1 j)) (s (S a 2 j)) (s (S a 3 j)) (some_holds s (each (suc a) m (naming j)))
+          (inl (subst (λ (x : ℕ). (s (S x 1 j) || (s (S x 2 j) || s (S x 3 j))) ≡ true) (sym e) h))
+      | inr d ↦
+          three_or (s (S a 1 j)) (s (S a 2 j)) (s (S a 3 j)) (some_holds s (each (suc a) m (naming j)))
+          (inr (some_gate_names s j (suc a) m k (omega arith) (omega arith) h))
+    ]
+  where
+    three_or : (x y z w : Bool) → ((x || (y || z)) ≡ true) ⊎ (w ≡ true) → (x || (y || (z || w))) ≡ true
+    three_or true y z w o = refl
+    three_or false true z w o = refl
+    three_or false false true w o = refl
+    three_or false false false w (inl e) = absurd (subst T (sym e) tt)
+    three_or false false false w (inr e) = e
+
+-- a power of two is at most half of a greater one
+half_power : (i j : ℕ) → i < j → 2 * 2 ^ i ≤ 2 ^ j
+half_power i j l =
+    elim (cases_eq (suc i) j) [
+      | inl e ↦ let d : 2 ^ suc i ≡ 2 ^ j = ap (λ (x : ℕ). 2 ^ x) e in omega (arith, pow-succ' 2 i)
+      | inr d ↦ omega (arith, pow-succ' 2 i, pow_below (suc i) j (omega arith))
+    ]
+
+-- of a gate and a canonical one, the one with the later third fan-in has the greater key
+third_decides : (b : ℕ) (g h : Gate) → 1 ≤ b → CanonicalGate b h → node h.third < node g.third → nodes_key h < nodes_key g
+third_decides b g h some c l = at c.shape
+  where
+    at : Rising h ⊎ Buffer b h → nodes_key h < nodes_key g
+    at (inl x) =
+        omega (arith, half_power (node h.first) (node h.second) x.0, half_power (node h.second) (node h.third) x.1, half_power (node h.third) (node g.third) l, pow_pos (node g.first), pow_pos (node h.first))
+    at (inr x) =
+        let e : 2 ^ node h.first ≡ 1 = rw x.first refl in
+        let d : 2 ^ node h.second ≡ 1 = rw x.second refl in
+        omega (arith, e, d, half_power 0 (node h.third) (omega (arith, x.source)), half_power (node h.third) (node g.third) l, pow_pos (node g.first), pow-zero 2)
 
 -- in row 0 each input is 0
 first_row_inputs : (n j : ℕ) → j ≤ n → get_or (row_start n 0) j false ≡ false
@@ -183,30 +241,68 @@ module _ (n r : ℕ) (net : Net) (sized : size net ≡ r) (formed : Formed n net
   first_row_met =
       satisfies_each said (suc n) r _ (λ i a b. satisfies_one said _ (not_met _ (first_row_below (suc i) i (omega arith) b)))
 
-  module _ (ordered : OrderedNeighbours third_node n net) where
-    in_order : (i j k : ℕ) → n < i → i < n + r → j < i → k < j → eqb (node (gate i).third) j ≡ true → eqb (node (gate (suc i)).third) k ≡ true → ⊥
-    in_order i j k a b l m e f =
+  module _ (ordered : OrderedNeighbours nodes_key n net) where
+    in_order_thirds : (i j k : ℕ) → n < i → i < n + r → j < i → k < j → eqb (node (gate i).third) j ≡ true → eqb (node (gate (suc i)).third) k ≡ true → ⊥
+    in_order_thirds i j k a b l m e f =
         let q : suc i - suc n ≡ i - suc n + 1 = omega arith in
         let p = eqb-true _ j e in
         let h : node (get_or net.gates (i - suc n + 1) empty_gate).third ≡ k = sym (ap (λ x. node (get_or net.gates x empty_gate).third) q) ∙ eqb-true _ k f in
         let o = ordered (i - suc n) (omega arith) (λ z. omega arith) in
-        omega arith
+        let c = subst (λ x. CanonicalGate (n + 1) (get_or net.gates x empty_gate)) q (gate_canonical (suc i) (omega arith) (omega arith)) in
+        omega (arith, third_decides (n + 1) (gate i) (get_or net.gates (i - suc n + 1) empty_gate) (omega arith) c (omega arith))
 
     neighbours_met : Satisfies said (neighbours_ordered n r)
     unfolding meaning said_without_counts Satisfies
     neighbours_met =
         satisfies_each said (suc n) (r - 1) _ (λ i a b. satisfies_each said 0 i _ (λ j v w. satisfies_each said 0 j _ (λ k y z.
-        (not_both_met (said (S i 3 j)) (said (S (suc i) 3 k)) (in_order i j k a (omega arith) (omega arith) (omega arith)), tt))))
+        (not_both_met (said (S i 3 j)) (said (S (suc i) 3 k)) (in_order_thirds i j k a (omega arith) (omega arith) (omega arith)), tt))))
 
--- what the variables say of a canonical network with its neighbours in order satisfies the symmetry clauses
-pub canonical_satisfies : (n r : ℕ) (net : Net) → size net ≡ r → Formed n net → Canonical n net → OrderedNeighbours third_node n net
-    → Satisfies (meaning n r net) (symmetry_clauses n r)
+  -- what names a node, the variables say so
+  said_names : (j i : ℕ) → 1 ≤ gate_uses j (gate i) → (said (S i 1 j) || (said (S i 2 j) || said (S i 3 j))) ≡ true
+  unfolding meaning said_without_counts
+  said_names j i u = one_named (eqb (node (gate i).first) j) (eqb (node (gate i).second) j) (eqb (node (gate i).third) j) u
+
+  said_uses : (j i c : ℕ) → 1 ≤ c → c < 4 → said (S i c j) ≡ true → 1 ≤ gate_uses j (gate i)
+  unfolding meaning said_without_counts
+  said_uses j i zero p q e = absurd (omega arith)
+  said_uses j i (suc zero) p q e = rw e (omega arith)
+  said_uses j i (suc (suc zero)) p q e = rw e (omega arith)
+  said_uses j i (suc (suc (suc zero))) p q e = rw e (omega arith)
+  said_uses j i (suc (suc (suc (suc c)))) p q e = absurd (omega arith)
+
+  module _ (f : ℕ) (ordered : InputsInOrder n f net) where
+    named_up_to_met : (a b i c : ℕ) → a < b → b < n → symmetric_in n f a b ≡ true → n < i → i < suc n + r → 1 ≤ c → c < 4
+        → some_holds said (named_up_to n a b i c) ≡ true
+    named_up_to_met a b i c l m s v w p q =
+        holds_or (said (S i c (suc b))) _ (λ e.
+        let (k, h, u) = ordered a b (i - suc n) l m s (omega arith) (said_uses (suc b) i c p q e) in
+        let back : suc n + k - suc n ≡ k = omega arith in
+        some_gate_names said (suc a) (suc n) (i - n) (suc n + k) (omega arith) (omega arith)
+        (said_names (suc a) (suc n + k) (subst (λ (x : ℕ). 1 ≤ gate_uses (suc a) (get_or net.gates x empty_gate)) (sym back) u)))
+
+    in_order_met : (a b : ℕ) (s : Bool) → symmetric_in n f a b ≡ s → a < b → b < n → Satisfies said (cond s (in_order n a b r) [])
+    unfolding Satisfies
+    in_order_met a b false e l m = tt
+    in_order_met a b true e l m =
+        satisfies_each said (suc n) r _ (λ i v w.
+        let at = λ (c : ℕ) (p : 1 ≤ c) (q : c < 4). named_up_to_met a b i c l m e v w p q in
+        (at 1 (omega arith) (omega arith), (at 2 (omega arith) (omega arith), (at 3 (omega arith) (omega arith), tt))))
+
+    inputs_met : Satisfies said (inputs_ordered n f r)
+    inputs_met =
+        satisfies_each said 0 n _ (λ a v w. satisfies_each said (suc a) (n - suc a) _ (λ b x y.
+        in_order_met a b (symmetric_in n f a b) refl (omega arith) (omega arith)))
+
+-- what the variables say of a canonical network with its neighbours and its inputs in order satisfies the symmetry clauses
+pub canonical_satisfies : (n f r : ℕ) (net : Net) → size net ≡ r → Formed n net → Canonical n net → OrderedNeighbours nodes_key n net → InputsInOrder n f net
+    → Satisfies (meaning n r net) (symmetry_clauses n f r)
 unfolding symmetry_clauses
-canonical_satisfies n r net e f c o =
+canonical_satisfies n f r net e g c o i =
     let s = meaning n r net in
-    satisfies_both s (complements_once n r) _ (complements_met n r net e f c)
-    (satisfies_both s (fan_ins_rise n r) _ (rise_met n r net e f c)
-    (satisfies_both s (buffers_copy_gates n r) _ (buffers_met n r net e f c)
-    (satisfies_both s (output_last n r) _ (output_met n r net e f c)
-    (satisfies_both s (gates_named n r) _ (named_met n r net e f c)
-    (satisfies_both s (first_row_zero n r) _ (first_row_met n r net e f c) (neighbours_met n r net e f c o))))))
+    satisfies_both s (complements_once n r) _ (complements_met n r net e g c)
+    (satisfies_both s (fan_ins_rise n r) _ (rise_met n r net e g c)
+    (satisfies_both s (buffers_copy_gates n r) _ (buffers_met n r net e g c)
+    (satisfies_both s (output_last n r) _ (output_met n r net e g c)
+    (satisfies_both s (gates_named n r) _ (named_met n r net e g c)
+    (satisfies_both s (first_row_zero n r) _ (first_row_met n r net e g c)
+    (satisfies_both s (neighbours_ordered n r) _ (neighbours_met n r net e g c o) (inputs_met n r net e g c f i)))))))

@@ -1,16 +1,11 @@
--- The symmetry clauses of n inputs and r gates, in seven groups, in their order. What the variables say of a canonical network
--- with its neighbours in order satisfies them. Without gates there are none.
+-- The symmetry clauses of n inputs, a table and r gates, in eight groups, in their order. What the variables say of a canonical
+-- network with its neighbours and its inputs in order satisfies them. Without gates there are none.
 use Rattle.std.specs.Prelude.{ℕ, suc, ◌+◌, ◌-◌, cond, List, [], ◌∷◌, ◌++◌, ◌==◌}
-use Rattle.mig.specs.declared.network.Gate.{Gate}
 use Rattle.mig.specs.declared.question.Question.{Question}
-use Rattle.mig.specs.Networks.{node}
 use Rattle.cnf.specs.Variables.{S, N, B, O, pos, neg, NamedClause, each, each_gate}
 use Rattle.cnf.specs.Clauses.{clauses_of}
 use Rattle.cnf.specs.Numbers.{Clause, numbered, question_number}
-
--- the key by which neighbouring gates are in order: the node of the third fan-in
-abbrev pub third_node : Gate → ℕ
-third_node g = node g.third
+use Rattle.symmetry_laws.specs.Inputs.{symmetric_in}
 
 -- not two of the three fan-ins of gate i are complemented
 abbrev pub no_two_complements : ℕ → List NamedClause
@@ -56,15 +51,27 @@ abbrev pub neighbours_ordered : ℕ → ℕ → List NamedClause
 neighbours_ordered n r =
     each_gate n (r - 1) (λ i. each 0 i (λ j. each 0 j (λ k. (neg (S i 3 j) ∷ neg (S (suc i) 3 k) ∷ []) ∷ [])))
 
--- the symmetry clauses of n inputs and r gates
-unfoldable pub symmetry_clauses : ℕ → ℕ → List NamedClause
-symmetry_clauses n r =
+-- if fan-in c of gate i is the input b, gate i or a gate before it names the input a
+abbrev pub named_up_to : ℕ → ℕ → ℕ → ℕ → ℕ → NamedClause
+named_up_to n a b i c = neg (S i c (suc b)) ∷ each (suc n) (i - n) (naming (suc a))
+
+-- no gate names the input b before one that names the input a
+abbrev pub in_order : ℕ → ℕ → ℕ → ℕ → List NamedClause
+in_order n a b r = each_gate n r (λ i. named_up_to n a b i 1 ∷ named_up_to n a b i 2 ∷ named_up_to n a b i 3 ∷ [])
+
+-- group h: of two inputs, counted from 0, in which the table is symmetric, no gate names the later before one that names the earlier
+abbrev pub inputs_ordered : ℕ → ℕ → ℕ → List NamedClause
+inputs_ordered n f r = each 0 n (λ a. each (suc a) (n - suc a) (λ b. cond (symmetric_in n f a b) (in_order n a b r) []))
+
+-- the symmetry clauses of n inputs, the table f and r gates
+unfoldable pub symmetry_clauses : ℕ → ℕ → ℕ → List NamedClause
+symmetry_clauses n f r =
     complements_once n r ++ (fan_ins_rise n r ++ (buffers_copy_gates n r ++ (output_last n r
-    ++ (gates_named n r ++ (first_row_zero n r ++ neighbours_ordered n r)))))
+    ++ (gates_named n r ++ (first_row_zero n r ++ (neighbours_ordered n r ++ inputs_ordered n f r))))))
 
 -- the clauses of a question and exactly r gates: those of the question, then the symmetry clauses
 abbrev pub exact_clauses : Question → ℕ → List NamedClause
-exact_clauses q r = clauses_of q.inputs q.table q.limits.depth q.limits.fan_out r ++ symmetry_clauses q.inputs r
+exact_clauses q r = clauses_of q.inputs q.table q.limits.depth q.limits.fan_out r ++ symmetry_clauses q.inputs q.table r
 
 -- these clauses by number
 abbrev pub numbered_exact_clauses : Question → ℕ → List Clause
