@@ -48,22 +48,22 @@ exact_within w up q r valid few =
     let f = q.limits.fan_out in
     let top : question_weight w f ≤ greatest 20 (question_weight w) = greatest_above 20 (question_weight w) f (omega (arith, valid.fan_out)) in
     let x = question_within w up n r valid.inputs few q.table q.limits.depth f valid.depth in
-    both_within (weighs w) (clauses_of n q.table q.limits.depth f r) (symmetry_clauses n r) {x = greatest 20 (question_weight w)}
-    (omega (arith, x, top)) (symmetry_within w up n r valid.inputs few)
+    both_within (weighs w) (clauses_of n q.table q.limits.depth f r) (symmetry_clauses n q.table r) {x = greatest 20 (question_weight w)}
+    (omega (arith, x, top)) (symmetry_within w up n r valid.inputs few q.table)
 
 -- how many clauses there are at most
-pub few_clauses : (q : Question) (r : ℕ) → Valid q → r ≤ 7 → length (numbered_exact_clauses q r) ≤ 11426
+pub few_clauses : (q : Question) (r : ℕ) → Valid q → r ≤ 7 → length (numbered_exact_clauses q r) ≤ 11552
 unfolding total greatest
 few_clauses q r valid few =
-    let bound : exact_weight (λ _. 1) ≡ 11426 = refl in
+    let bound : exact_weight (λ _. 1) ≡ 11552 = refl in
     let cs = exact_clauses q r in
     omega (arith, exact_within (λ _. 1) (λ x y l. omega arith) q r valid few, bound, ones cs, clauses_kept (question_number q r) cs)
 
 -- how many literals there are at most
-pub few_literals : (q : Question) (r : ℕ) → Valid q → r ≤ 7 → literal_total (numbered_exact_clauses q r) ≤ 36322
+pub few_literals : (q : Question) (r : ℕ) → Valid q → r ≤ 7 → literal_total (numbered_exact_clauses q r) ≤ 37960
 unfolding total greatest
 few_literals q r valid few =
-    let bound : exact_weight (λ x. x) ≡ 36322 = refl in
+    let bound : exact_weight (λ x. x) ≡ 37960 = refl in
     let cs = exact_clauses q r in
     omega (arith, exact_within (λ x. x) (λ x y l. l) q r valid few, bound, literals_kept (question_number q r) cs)
 

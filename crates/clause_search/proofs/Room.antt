@@ -24,7 +24,7 @@ length-codes_of (c ∷ cs) =
     ∙ sym (sum_by-cons (λ (x : Clause). length x) c cs)
 
 module _ (q : Question) (r words : ℕ) (can : CanBeAsked q r words) (s : Shape) (is : IsShapeOf q r s) where
-  pub few_given : s.clauses ≤ 11426
+  pub few_given : s.clauses ≤ 11552
   few_given = omega (arith, is.clauses, few_clauses q r can.valid can.few)
 
   pub few_named : s.variables ≤ 1282

@@ -6,6 +6,7 @@ ghost use Rattle.clauses.specs.Numbering.{numbered_by};
 ghost use Rattle.symmetry_laws.specs.Symmetry.{naming};
 ghost use Rattle.symmetry_laws.specs.Symmetry.{output_last as group_d, gates_named as group_e, first_row_zero as group_f, neighbours_ordered as group_g};
 
+use crate::naming::write_naming;
 use clauses::{Numbering, neg, pos};
 use cnf::ClauseSink;
 
@@ -24,13 +25,14 @@ fn gate_named<S: ClauseSink>(sink: &mut S, numbering: &Numbering, gate: u8)
     ensures { S.took sink.old (map (numbered_literal (numbered_by numbering.now)) (each (suc gate) (numbering.now.inputs + numbering.now.gates - gate) (naming gate)) ∷ []) sink.new }
 {
     let mut literals = [pos(0); 18];
-    let mut count = 0;
-    for later in gate + 1..numbering.inputs + numbering.gates + 1 {
-        literals[count] = pos(numbering.fan_in_is(later, 1, gate));
-        literals[count + 1] = pos(numbering.fan_in_is(later, 2, gate));
-        literals[count + 2] = pos(numbering.fan_in_is(later, 3, gate));
-        count += 3;
-    }
+    let count = write_naming(
+        &mut literals,
+        0,
+        numbering,
+        gate,
+        gate + 1,
+        numbering.inputs + numbering.gates + 1,
+    );
     sink.take(&literals[..count]);
 }
 

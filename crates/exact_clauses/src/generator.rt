@@ -6,6 +6,7 @@ ghost use Rattle.symmetry_laws.specs.Symmetry.{numbered_exact_clauses};
 
 use crate::fan_ins::{buffers_copy_gates, complements_once, fan_ins_rise};
 use crate::gates::{first_row_zero, gates_named, neighbours_ordered, output_last};
+use crate::inputs::inputs_ordered;
 use clauses::{Numbering, generate};
 use cnf::ClauseSink;
 use mig::{Question, Refusal};
@@ -30,5 +31,6 @@ pub fn generate_exact<S: ClauseSink>(
     gates_named(sink, &numbering);
     first_row_zero(sink, &numbering);
     neighbours_ordered(sink, &numbering);
+    inputs_ordered(sink, &numbering, question.table);
     Ok(())
 }

@@ -5,5 +5,8 @@
 mod fan_ins;
 mod gates;
 mod generator;
+mod inputs;
+mod naming;
+mod symmetry;
 
 pub use generator::generate_exact;

@@ -8,12 +8,12 @@ use Rattle.clauses.specs.Numbering.{numbered_by}
 use Rattle.clauses.proofs.Takings.{took_both}
 use Rattle.exact_clauses.proofs.generator.generate_exact.Goals as goal
 
--- the symmetry clauses by the numbers of a numbering of the question
+-- the symmetry clauses of a table by the numbers of a numbering of the question
 of_the_question : (e : Numbering) (q : Question) (r : ℕ)
     → (e.inputs ≡ q.inputs) × (e.gates ≡ r) × (e.depth ≡ q.limits.depth) × (e.fan_out ≡ q.limits.fan_out)
-    → numbered (numbered_by e) (symmetry_clauses e.inputs e.gates) ≡ numbered (question_number q r) (symmetry_clauses q.inputs r)
+    → numbered (numbered_by e) (symmetry_clauses e.inputs q.table e.gates) ≡ numbered (question_number q r) (symmetry_clauses q.inputs q.table r)
 of_the_question e q r h =
-    let f : ℕ → ℕ → ℕ → ℕ → _ = λ n d o k. numbered (number n d o k) (symmetry_clauses n k) in
+    let f : ℕ → ℕ → ℕ → ℕ → _ = λ n d o k. numbered (number n d o k) (symmetry_clauses n q.table k) in
     ap (λ n. f n e.depth e.fan_out e.gates) h.0
     ∙ ap (λ k. f q.inputs e.depth e.fan_out k) h.1
     ∙ ap (λ d. f q.inputs d e.fan_out r) h.2
@@ -26,14 +26,15 @@ returns-clause-takes_the_clauses_in_order g c =
     let q = c.args.question.now in
     let r = c.args.gates in
     let more = took_both g.S.ClauseSink.took (numbered_by e) g.met.S.ClauseSink.took_more in
-    let symmetry : g.S.ClauseSink.took c.generate.new.sink (numbered (question_number q r) (symmetry_clauses q.inputs r)) c.neighbours_ordered.new.sink =
-    subst (λ cs. g.S.ClauseSink.took c.generate.new.sink cs c.neighbours_ordered.new.sink)
+    let symmetry : g.S.ClauseSink.took c.generate.new.sink (numbered (question_number q r) (symmetry_clauses q.inputs q.table r)) c.inputs_ordered.new.sink =
+    subst (λ cs. g.S.ClauseSink.took c.generate.new.sink cs c.inputs_ordered.new.sink)
     (of_the_question e q r c.in_ok-numbering.ensures.of_the_question)
     (more _ _ _ _ _ c.complements_once.ensures
     (more _ _ _ _ _ c.fan_ins_rise.ensures
     (more _ _ _ _ _ c.buffers_copy_gates.ensures
     (more _ _ _ _ _ c.output_last.ensures
     (more _ _ _ _ _ c.gates_named.ensures
-    (more _ _ _ _ _ c.first_row_zero.ensures c.neighbours_ordered.ensures)))))) in
+    (more _ _ _ _ _ c.first_row_zero.ensures
+    (more _ _ _ _ _ c.neighbours_ordered.ensures c.inputs_ordered.ensures))))))) in
     took_both g.S.ClauseSink.took (question_number q r) g.met.S.ClauseSink.took_more
-    (clauses_of q.inputs q.table q.limits.depth q.limits.fan_out r) (symmetry_clauses q.inputs r) _ _ _ c.in_ok-generate.ensures.takes_the_clauses_in_order symmetry
+    (clauses_of q.inputs q.table q.limits.depth q.limits.fan_out r) (symmetry_clauses q.inputs q.table r) _ _ _ c.in_ok-generate.ensures.takes_the_clauses_in_order symmetry
