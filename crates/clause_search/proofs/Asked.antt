@@ -67,8 +67,8 @@ pub question_satisfied : (q : Question) (r : ℕ) (bits : List Bool) → all_hol
 question_satisfied q r bits h =
     let xs = clauses_of q.inputs q.table q.limits.depth q.limits.fan_out r in
     let g = question_number q r in
-    (and_parts (all_hold bits (numbered g xs)) (all_hold bits (numbered g (symmetry_clauses q.inputs r)))
-    (sym (ap (all_hold bits) (numbered_append g xs (symmetry_clauses q.inputs r)) ∙ list_all-append (clause_holds bits) (numbered g xs) (numbered g (symmetry_clauses q.inputs r))) ∙ h)).0
+    (and_parts (all_hold bits (numbered g xs)) (all_hold bits (numbered g (symmetry_clauses q.inputs q.table r)))
+    (sym (ap (all_hold bits) (numbered_append g xs (symmetry_clauses q.inputs q.table r)) ∙ list_all-append (clause_holds bits) (numbered g xs) (numbered g (symmetry_clauses q.inputs q.table r))) ∙ h)).0
 
 none_from_pass : (o : Option Refusal) → passes o ≡ true → o ≡ None
 none_from_pass (Some e) h = absurd (false≢true h)
