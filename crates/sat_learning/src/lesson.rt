@@ -7,7 +7,7 @@ ghost use Rattle.sat_laws.specs.Steps.{Analyzed};
 use crate::analysis::analyze;
 use crate::learnt_clause::learn;
 use crate::marks::clear;
-use crate::minimization::{drop_undecided, minimize};
+use crate::minimization::minimize;
 use crate::restarts::backjump_place;
 use sat_clauses::FULL;
 use sat_trail::{DECISION_LEVEL, LEARNT, Places, note, noted};
@@ -42,9 +42,8 @@ pub fn study(
     ) {
         return (clauses, None);
     }
-    drop_undecided(values, trail, kinds, marks, top);
     minimize(
-        words, ends, clauses, values, trail, marks, notes, places, top,
+        words, ends, clauses, values, trail, kinds, marks, notes, places, top,
     );
     let more = learn(words, ends, clauses, values, marks);
     if more == clauses {
