@@ -18,6 +18,8 @@ pub const LEARNT: u32 = 7; // clauses learnt since the last reduction
 
 pub const SPAN: u32 = 8; // how many are to be learnt before the next
 
+pub const LESSON: u32 = 9; // the number of the conflict that is studied
+
 pub const TALLY: u32 = 16; // by length: how many learnt clauses have it
 
 pub const TALLY_LENGTH: u32 = 64;
@@ -29,6 +31,7 @@ pub struct Places {
     pub reason: u32, // by variable: the clause that gave the value, plus one, or 0
     pub activity: u32, // by variable: how often it was met of late
     pub phase: u32, // by variable: its last value
+    pub met: u32, // by variable: the number of the last conflict in whose study it was met
     pub first_watch: u32, // by literal: the first node that watches it, plus one, or 0
     pub decision: u32, // by level: the place of its decision on the trail
     pub node: u32, // two by clause: the next node in the high half, the place in the clause in the low half
