@@ -15,7 +15,7 @@ values_place s = table_length s
 
 -- the length of the notes
 abbrev pub notes_length : Shape → ℕ
-notes_length s = 82 + 7 * s.variables + 2 * s.clauses + 2 * s.learnt
+notes_length s = 82 + 8 * s.variables + 2 * s.clauses + 2 * s.learnt
 
 -- where the literals begin: behind values, trail, kinds, marks and notes
 abbrev pub literals_place : Shape → ℕ

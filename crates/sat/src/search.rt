@@ -1,10 +1,10 @@
 // The search: propagate, decide, learn, until there is a model or a conflict without a decision.
 
-ghost use Rattle.std.specs.Prelude.{◌≡◌, ℕ, ◌≤◌, ◌<◌, true, false, length, slice_index};
+ghost use Rattle.std.specs.Prelude.{◌≡◌, ℕ, ◌+◌, ◌≤◌, ◌<◌, true, false, MatchOption, length, slice_index};
 ghost use Rattle.sat_laws.specs.Formulas.{Assignment, ClausesHold, WellFormed};
-ghost use Rattle.sat_laws.specs.Trails.{Consistent};
+ghost use Rattle.sat_laws.specs.Trails.{AreFalse, Consistent};
 ghost use Rattle.sat_laws.specs.Steps.{Grown};
-ghost use Rattle.sat.specs.Steps.{IsToldModel};
+ghost use Rattle.sat.specs.Steps.{Ends, GoesOn, IsToldModel};
 
 use crate::next::{Step, next_step};
 use sat_learning::{recover, reduce, study};
@@ -42,6 +42,62 @@ fn start(
         top = grown;
     }
     top
+}
+
+// Where the search goes on.
+#[derive(Clone, Copy)]
+struct Position {
+    clauses: usize, // how many clauses are held
+    top: usize, // how many literals the trail has
+    from: usize, // the place of the first that is to be propagated
+}
+
+// Learns from a false clause, and goes back as far as that tells, or else to the last decision. None where the given clauses have
+// no model.
+fn resolve(
+    words: &mut [u32],
+    ends: &mut [u32],
+    given: usize,
+    clauses: usize,
+    values: &mut [u32],
+    trail: &mut [u32],
+    kinds: &mut [u32],
+    marks: &mut [u32],
+    notes: &mut [u32],
+    places: &Places,
+    top: usize,
+    conflict: usize,
+) -> Option<Position>
+    requires well_formed { WellFormed words.old ends.old clauses (length values.old) }
+    requires consistent { Consistent values.old trail.old kinds.old top }
+    requires few { length values.old ≤ 32768 }
+    requires given_first { given ≤ clauses }
+    requires held { conflict < clauses }
+    requires is_false { AreFalse values.old words.old (slice_index ends.old conflict) (slice_index ends.old (conflict + 1)) }
+    ensures resolved { MatchOption result (Ends given words.old ends.old clauses values.old trail.old kinds.old top) (λ p. GoesOn given words.old ends.old clauses values.old trail.old kinds.old top words.new ends.new p.clauses values.new trail.new kinds.new p.top) }
+{
+    let (more, cut) = study(
+        words, ends, clauses, values, trail, kinds, marks, notes, places, top, conflict,
+    );
+    let Some(to) = cut else {
+        let back = backtrack(values, trail, kinds, notes, places, top);
+        if back == 0 {
+            return None;
+        }
+        return Some(Position {
+            clauses: more,
+            top: back,
+            from: back - 1,
+        });
+    };
+    let grown = recover(
+        words, ends, more, values, trail, kinds, notes, places, top, to,
+    );
+    Some(Position {
+        clauses: reduce(words, ends, given, more, values, notes, places),
+        top: grown,
+        from: to,
+    })
 }
 
 // Whether the first `given` clauses have a model, which the values then tell.
@@ -89,24 +145,15 @@ pub(crate) fn search(
                     continue;
                 }
                 fuel -= 1;
-                let (more, cut) = study(
-                    words, ends, clauses, values, trail, kinds, marks, notes, places, t, clause,
-                );
-                match cut {
-                    None => {
-                        clauses = more;
-                        top = backtrack(values, trail, kinds, notes, places, t);
-                        if top == 0 {
-                            return false;
-                        }
-                        from = top - 1;
-                    }
-                    Some(to) => {
-                        top = recover(
-                            words, ends, more, values, trail, kinds, notes, places, t, to,
-                        );
-                        from = to;
-                        clauses = reduce(words, ends, given, more, values, notes, places);
+                match resolve(
+                    words, ends, given, clauses, values, trail, kinds, marks, notes, places, t,
+                    clause,
+                ) {
+                    None => return false,
+                    Some(position) => {
+                        clauses = position.clauses;
+                        top = position.top;
+                        from = position.from;
                     }
                 }
             }

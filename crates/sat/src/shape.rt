@@ -31,7 +31,7 @@ pub fn values_place(shape: &Shape) -> usize
 pub(crate) fn notes_length(shape: &Shape) -> usize
     ensures length { result ≡ notes_length shape.now }
 {
-    82 + 7 * shape.variables as usize + 2 * shape.clauses as usize + 2 * shape.learnt as usize
+    82 + 8 * shape.variables as usize + 2 * shape.clauses as usize + 2 * shape.learnt as usize
 }
 
 // The place in the words where the literals begin, two in a word.
@@ -52,8 +52,9 @@ pub(crate) fn places(shape: &Shape) -> Places
         reason: level + n,
         activity: level + 2 * n,
         phase: level + 3 * n,
-        first_watch: level + 4 * n,
-        decision: level + 6 * n,
-        node: level + 7 * n + 2,
+        met: level + 4 * n,
+        first_watch: level + 5 * n,
+        decision: level + 7 * n,
+        node: level + 8 * n + 2,
     }
 }

@@ -1,11 +1,11 @@
 -- Clauses: learning from marked variables, one clause more, fewer clauses.
-use Rattle.std.proofs.Common.{◌≡◌, ◌*◌, ◌≢◌, ℕ, zero, suc, ◌+◌, ◌/◌, ◌%◌, ◌≤◌, ◌<◌, true, false, eqb, inl, inr, ⊎_elim, List, length, get_or, set, sym, ap, ◌∙◌, subst, arith, length-set, get_or-set_same, get_or-set_other, add-one}
+use Rattle.std.proofs.Common.{◌≡◌, ◌*◌, ◌≢◌, ℕ, zero, suc, ◌+◌, ◌/◌, ◌%◌, ◌≤◌, ◌<◌, true, false, eqb, ⊎_elim, List, length, get_or, set, sym, ap, ◌∙◌, subst, arith, length-set, get_or-set_same, get_or-set_other, add-one}
 use Rattle.std.proofs.lemmas.Bool.{cases_eq, cases_lt, cases_Bool}
 use Rattle.std.proofs.lemmas.Bool.Decides.{nat_tests}
 use Rattle.std.proofs.lemmas.List.{get_or_past}
 use Rattle.sat_laws.specs.Formulas.{literal_at, bit, Assignment, Formula, Holds, SomeHolds, ClausesHold, IsModel, Implied, WellFormed, SameClauses}
-use Rattle.sat_laws.specs.Trails.{Justified, IsTrueLiteral, IsFalseLiteral}
-use Rattle.sat_laws.specs.Steps.{Marked, Covered, Apart, Gathered}
+use Rattle.sat_laws.specs.Trails.{IsTrueLiteral, IsFalseLiteral}
+use Rattle.sat_laws.specs.Steps.{Marked, Apart, Gathered}
 use Rattle.sat_laws.specs.Runs.{assignment_of}
 use Rattle.sat_laws.proofs.Trails.{bit_le}
 
@@ -13,7 +13,7 @@ pub in_range : (xs : List ℕ) (i : ℕ) → 0 < get_or xs i 0 → i < length xs
 in_range xs i h = ⊎_elim (λ (g : i < length xs). g) (λ (g : length xs ≤ i). absurd (omega (arith, get_or_past xs i 0 g))) (cases_lt i (length xs))
 
 -- a literal that is false and holds in m: m differs there
-differs : (values : List ℕ) (m : Assignment) (q : ℕ) → IsFalseLiteral values q → Holds m q → (0 < get_or values (q / 2) 0) × (get_or values (q / 2) 0 + bit (m (q / 2)) ≡ 2)
+pub differs : (values : List ℕ) (m : Assignment) (q : ℕ) → IsFalseLiteral values q → Holds m q → (0 < get_or values (q / 2) 0) × (get_or values (q / 2) 0 + bit (m (q / 2)) ≡ 2)
 differs values m q f h = (omega arith, omega arith)
 
 pub apart_first : (F : Formula) (ws values marks marks′ : List ℕ) (a b l : ℕ) → ((m : Assignment) → IsModel F m → SomeHolds m ws a b)
@@ -39,21 +39,6 @@ apart_more F ws values marks marks′ a b l c t ap1 k m mm =
     (k.new (x.0) (x.1) (x.2)))
     (λ (ne : u.0 ≡ l / 2 → ⊥). (u.0, k.old (u.0) (subst (λ y. 0 < y) (sym (get_or-set_other marks (l / 2) (u.0) 0 0 ne)) (u.1)), u.2, u.3))
     (cases_eq (u.0) (l / 2))
-
--- a variable whose literal on the trail needs no decision
-pub apart_undecided : (F : Formula) (values trail kinds marks : List ℕ) (top i : ℕ) → Justified F trail kinds top → i < top
-    → ((j : ℕ) → j < i + 1 → get_or kinds j 0 ≡ 1 → ⊥) → IsTrueLiteral values (get_or trail i 0) → Apart F values marks
-    → Apart F values (set marks (get_or trail i 0 / 2) 0)
-apart_undecided F values trail kinds marks top i just lt free t apart m mm =
-    let l : ℕ = get_or trail i 0 in
-    let u = apart m mm in
-    ⊎_elim
-    (λ (e : u.0 ≡ l / 2).
-    let h : Holds m l = ⊎_elim (λ d. absurd (free i (omega arith) d)) (λ f. f m mm (λ j g d. absurd (free j (omega arith) d))) (just i lt) in
-    let w : get_or values (l / 2) 0 + bit (m (l / 2)) ≡ 2 = subst (λ y. get_or values y 0 + bit (m y) ≡ 2) e u.3 in
-    absurd (omega arith))
-    (λ (ne : u.0 ≡ l / 2 → ⊥). (u.0, subst (λ y. 0 < y) (sym (get_or-set_other marks (l / 2) u.0 0 0 ne)) u.1, u.2, u.3))
-    (cases_eq u.0 (l / 2))
 
 pub gathered_holds : (F : Formula) (ws values marks : List ℕ) (a : ℕ) (ws′ : List ℕ) (b : ℕ) → Apart F values marks → Gathered ws values marks a ws′ b
     → (m : Assignment) → IsModel F m → SomeHolds m ws′ a b
@@ -157,9 +142,3 @@ ends_rise ends k s c (suc d) h g = ⊎_elim
     (λ (e : c ≡ suc d). rw e (omega arith))
     (λ (e : c ≡ suc d → ⊥). let i : get_or ends d 0 ≤ get_or ends (suc d) 0 = simp add-one at (s d (omega arith)) in omega (arith, ends_rise ends k s c d (omega arith) (omega arith)))
     (cases_eq c (suc d))
-
-pub covered_marked : (ws values : List ℕ) (a b l : ℕ) (marks : List ℕ) → Covered ws values a b l marks → Marked ws values a b l (set marks (l / 2) 0) (set marks (l / 2) 0)
-covered_marked ws values a b l marks k = record {
-  new = λ j h g. ⊎_elim (λ e. inl e) (λ f. inr (f.0, subst (λ y. 0 < y) (sym (get_or-set_other marks (l / 2) _ 0 0 (f.1))) (f.2))) (k j h g);
-  old = λ v h. h;
-}

@@ -37,9 +37,21 @@ pub record Marked (ws values : List ℕ) (a b l : ℕ) (marks marks′ : List �
   pub new : (j : ℕ) → a ≤ j → j < b → (literal_at ws j ≡ l) ⊎ (IsFalseLiteral values (literal_at ws j) × (0 < get_or marks′ (literal_at ws j / 2) 0))
   pub old : (v : ℕ) → 0 < get_or marks v 0 → 0 < get_or marks′ v 0
 
--- each literal from a up to b is l, or false and of another marked variable
+-- While a clause is minimized a variable is marked 1 where it is still to be reached, 2 where its value is implied by those of the
+-- variables kept, and 3 where it is kept.
+
+-- each literal from a up to b is l, or false and of a variable that is implied or kept
 abbrev pub Covered : List ℕ → List ℕ → ℕ → ℕ → ℕ → List ℕ → Type 0
-Covered ws values a b l marks = (j : ℕ) → a ≤ j → j < b → (literal_at ws j ≡ l) ⊎ (IsFalseLiteral values (literal_at ws j) × (literal_at ws j / 2 ≢ l / 2) × (0 < get_or marks (literal_at ws j / 2) 0))
+Covered ws values a b l marks = (j : ℕ) → a ≤ j → j < b → (literal_at ws j ≡ l) ⊎ (IsFalseLiteral values (literal_at ws j) × (2 ≤ get_or marks (literal_at ws j / 2) 0))
+
+-- a model of F that differs from the values at the variable v differs from them at some variable with a mark of k or more
+abbrev pub FollowsFrom : Formula → List ℕ → List ℕ → ℕ → ℕ → Type 0
+FollowsFrom F values marks k v = (m : Assignment) → IsModel F m → 0 < get_or values v 0 → get_or values v 0 + bit (m v) ≡ 2
+    → (u : ℕ) × (k ≤ get_or marks u 0) × (0 < get_or values u 0) × (get_or values u 0 + bit (m u) ≡ 2)
+
+-- the values of the variables that are implied follow from those of the variables kept
+abbrev pub FollowFromKept : Formula → List ℕ → List ℕ → Type 0
+FollowFromKept F values marks = (v : ℕ) → 2 ≤ get_or marks v 0 → FollowsFrom F values marks 3 v
 
 -- each model of F differs from the values at some marked variable
 abbrev pub Apart : Formula → List ℕ → List ℕ → Type 0

@@ -4,10 +4,11 @@ ghost use Rattle.std.specs.Prelude.{ℕ, ◌≤◌, ◌<◌, IfSome, length, sli
 ghost use Rattle.sat_laws.specs.Formulas.{WellFormed};
 ghost use Rattle.sat_laws.specs.Steps.{Analyzed};
 
+use crate::activities::{begin_lesson, bump_reasons};
 use crate::analysis::analyze;
 use crate::learnt_clause::learn;
 use crate::marks::clear;
-use crate::minimization::{drop_undecided, minimize};
+use crate::minimization::minimize;
 use crate::restarts::backjump_place;
 use sat_clauses::FULL;
 use sat_trail::{DECISION_LEVEL, LEARNT, Places, note, noted};
@@ -37,15 +38,16 @@ pub fn study(
     ensures on_trail { IfSome result.1 (λ to. to ≤ top) }
 {
     clear(marks);
+    begin_lesson(notes);
     if !analyze(
         words, ends, clauses, values, trail, marks, notes, places, top, conflict,
     ) {
         return (clauses, None);
     }
-    drop_undecided(values, trail, kinds, marks, top);
     minimize(
-        words, ends, clauses, values, trail, marks, notes, places, top,
+        words, ends, clauses, values, trail, kinds, marks, notes, places, top,
     );
+    bump_reasons(words, ends, marks, notes, places);
     let more = learn(words, ends, clauses, values, marks);
     if more == clauses {
         note(notes, LEARNT, 0, FULL);

@@ -3,8 +3,9 @@
 ghost use Rattle.std.specs.Prelude.{◌≡◌, ℕ, true, slice_index};
 ghost use Rattle.sat_laws.specs.Steps.{Marked};
 
+use crate::activities::bump;
 use sat_clauses::literal;
-use sat_trail::{ACTIVITY_STEP, DECISION_LEVEL, OPEN, Places, note, noted, value};
+use sat_trail::{DECISION_LEVEL, OPEN, Places, note, noted, value};
 
 // No literal has this number.
 pub(crate) const NO_LITERAL: u32 = 4294967295;
@@ -24,20 +25,6 @@ pub(crate) fn mark_of(marks: &[u32], variable: usize) -> u32
 pub(crate) fn clear(marks: &mut [u32]) {
     for mark in marks.iter_mut() {
         *mark = 0;
-    }
-}
-
-// Notes that a variable was met.
-fn bump(notes: &mut [u32], places: &Places, variable: usize, variables: usize) {
-    let step = noted(notes, ACTIVITY_STEP, 0);
-    let activity = noted(notes, places.activity, variable).saturating_add(step);
-    note(notes, places.activity, variable, activity);
-    if activity > 2000000000 {
-        for v in 0..variables {
-            let less = noted(notes, places.activity, v) / 16;
-            note(notes, places.activity, v, less);
-        }
-        note(notes, ACTIVITY_STEP, 0, (step / 16).max(1));
     }
 }
 

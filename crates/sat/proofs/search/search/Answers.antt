@@ -3,7 +3,7 @@ use Rattle.sat_laws.specs.Runs.{assignment_of}
 use Rattle.sat_laws.proofs.Trails.{start_consistent, refuted_none, values_small}
 use Rattle.sat_laws.proofs.Weights.{fuel_less}
 use Rattle.sat_laws.proofs.Clauses.{hold_kept}
-use Rattle.sat_laws.proofs.Runs.{run_start, run_grown, run_to, run_refuted, run_learnt, run_backjumped, run_reduced, measure_less}
+use Rattle.sat_laws.proofs.Runs.{run_start, run_grown, run_to, run_refuted, measure_less}
 use Rattle.sat.proofs.search.search.Goals as goal
 
 pub loop-l-init : goal.loop-l-init
@@ -46,28 +46,13 @@ loop-l-preserved-then-fuel-eq0 c =
     let z : 0 < c.backtrack-top.result = omega (arith, c.if-top-eq0.false) in
     run_to p c.backtrack-top.auto.values (c.backtrack-top.ensures.backtracked.consistent z) (c.backtrack-top.ensures.backtracked.justified _ d p.justified z)
 
-pub returns-then-top-eq0-2-clause-unsatisfiable : goal.returns-then-top-eq0-2-clause-unsatisfiable
-returns-then-top-eq0-2-clause-unsatisfiable c =
+pub returns-in-None-clause-unsatisfiable : goal.returns-in-None-clause-unsatisfiable
+returns-in-None-clause-unsatisfiable c =
     let p = run_grown c.loop-l.invariant c.propagate-t.auto.values c.propagate-t.ensures.grown in
-    let d = run_refuted p _ c.in-Conflict.ensures.finds.0 c.in-Conflict.ensures.finds.1 in
-    λ _ m h. refuted_none _ _ _ (c.backtrack-top-in-None.ensures.backtracked.none_left _ d c.if-top-eq0-2.true) m h
-
-pub loop-l-smaller-in-None : goal.loop-l-smaller-in-None
-loop-l-smaller-in-None c = fuel_less _ _ _ _ _ _ _ (omega arith)
-
-pub loop-l-preserved-in-None : goal.loop-l-preserved-in-None
-loop-l-preserved-in-None c =
-    let p = run_grown c.loop-l.invariant c.propagate-t.auto.values c.propagate-t.ensures.grown in
-    let d = run_refuted p _ c.in-Conflict.ensures.finds.0 c.in-Conflict.ensures.finds.1 in
-    let s = run_learnt p c.study-more.ensures.analyzed in
-    let z : 0 < c.backtrack-top-in-None.result = omega (arith, c.if-top-eq0-2.false) in
-    run_to s c.backtrack-top-in-None.auto.values (c.backtrack-top-in-None.ensures.backtracked.consistent z)
-    (c.backtrack-top-in-None.ensures.backtracked.justified _ d p.justified z)
+    λ _ m h. c.in-None.ensures.resolved _ _ p m h
 
 pub loop-l-smaller : goal.loop-l-smaller
 loop-l-smaller c = fuel_less _ _ _ _ _ _ _ (omega arith)
 
 pub loop-l-preserved : goal.loop-l-preserved
-loop-l-preserved c =
-    let p = run_grown c.loop-l.invariant c.propagate-t.auto.values c.propagate-t.ensures.grown in
-    run_reduced (run_backjumped (run_learnt p c.study-more.ensures.analyzed) c.recover-top.auto.values c.recover-top.ensures.backjumped) c.reduce-clauses.ensures.reduced
+loop-l-preserved c = c.in-Some.ensures.resolved _ _ (run_grown c.loop-l.invariant c.propagate-t.auto.values c.propagate-t.ensures.grown)

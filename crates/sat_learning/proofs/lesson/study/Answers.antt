@@ -8,7 +8,7 @@ returns-then-more-clauses-clause-analyzed c =
       shaped = l.shaped;
       kept = l.kept;
       more = l.more;
-      sound = λ F snd just. l.sound F snd (c.minimize.ensures.apart F snd (c.drop_undecided.ensures.apart F just (c.if-not-analyze.ensures.apart refl F snd)));
+      sound = λ F snd just. l.sound F snd (c.minimize.ensures.apart F snd just (c.if-not-analyze.ensures.apart refl F snd));
     }
 
 pub returns-clause-analyzed : goal.returns-clause-analyzed
@@ -18,5 +18,5 @@ returns-clause-analyzed c =
       shaped = l.shaped;
       kept = l.kept;
       more = l.more;
-      sound = λ F snd just. l.sound F snd (c.minimize.ensures.apart F snd (c.drop_undecided.ensures.apart F just (c.if-not-analyze.ensures.apart refl F snd)));
+      sound = λ F snd just. l.sound F snd (c.minimize.ensures.apart F snd just (c.if-not-analyze.ensures.apart refl F snd));
     }
