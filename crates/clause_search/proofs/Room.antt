@@ -30,8 +30,8 @@ module _ (q : Question) (r words : ℕ) (can : CanBeAsked q r words) (s : Shape)
   pub few_named : s.variables ≤ 1282
   few_named = omega (arith, is.variables, few_variables q r can.valid can.few)
 
-  -- the literals begin in the first 73,747 words
-  pub literals_begin : literals_place s ≤ 73747
+  -- the literals begin in the first 80,123 words
+  pub literals_begin : literals_place s ≤ 80123
   literals_begin = omega (arith, few_given, few_named, is.learnt)
 
   pub room_for_table : literals_place s ≤ words

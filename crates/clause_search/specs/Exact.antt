@@ -17,11 +17,11 @@ pub record CanBeAsked (q : Question) (r words : ℕ) : Type 0 where
   pub few : r ≤ 7
   pub room : 131072 ≤ words
 
--- the shape of the clauses of the question and exactly r gates, with room for 6,000 learnt clauses
+-- the shape of the clauses of the question and exactly r gates, with room for 10,000 learnt clauses
 pub record IsShapeOf (q : Question) (r : ℕ) (s : Shape) : Type 0 where
   pub variables : s.variables ≡ length (question_variables q r)
   pub clauses : s.clauses ≡ length (numbered_exact_clauses q r)
-  pub learnt : s.learnt ≡ 6000
+  pub learnt : s.learnt ≡ 10000
 
 -- the words hold the clauses of the question and exactly r gates
 abbrev pub Poses : Question → ℕ → Shape → List ℕ → Type 0

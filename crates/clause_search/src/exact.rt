@@ -16,7 +16,7 @@ use mig::{Network, Question, Refusal};
 use sat::{Answer, Shape, literals_place, solve, values_place};
 
 // How many learnt clauses there is to be room for.
-const LEARNT: u32 = 6000;
+const LEARNT: u32 = 10000;
 
 // How many variables and clauses a question and exactly so many gates have.
 fn shape_of(question: &Question, gates: u8) -> Result<Shape, Refusal>
