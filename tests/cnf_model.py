@@ -43,6 +43,7 @@ TEXTS = [
     ("p cnf 1 1\n1 0\n", "97 0", "s UNKNOWN", ROOM),
     ("p cnf 1 1\n1 0\n", "98 0", "s SATISFIABLE", "v 1 0"),
     ("p cnf 1 1\n1 0\n", "many", "s UNKNOWN", "c usage: dimacs [WORDS [LEARNT]]"),
+    ("p cnf 1 1\n1 0\n", "1000 10 1", "s UNKNOWN", "c usage: dimacs [WORDS [LEARNT]]"),
     ("p cnf 0 0\n", "", "s SATISFIABLE", "v 0"),
     ("p cnf 0 1\n0\n", "", "s UNSATISFIABLE", None),
     ("c\n\np cnf 2 2\nc -1 0\n-1\n-1 0\r\n 1 2 -1 2 0\n", "", "s SATISFIABLE", None),

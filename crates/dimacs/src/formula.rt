@@ -7,6 +7,8 @@ use thiserror::Error;
 // Why there is no answer.
 #[derive(Clone, Copy, Debug, Error)]
 pub(crate) enum Fault {
+    #[error("usage: dimacs [WORDS [LEARNT]]")]
+    BadArguments,
     #[error("not one line p cnf VARIABLES CLAUSES, before the clauses")]
     BadHeader,
     #[error("not a number")]

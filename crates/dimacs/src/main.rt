@@ -3,7 +3,6 @@
 
 mod formula;
 
-use anyhow::anyhow;
 use formula::{Fault, Formula};
 use sat::Answer;
 use std::env;
@@ -21,12 +20,12 @@ const SATISFIABLE: u8 = 10;
 const UNSATISFIABLE: u8 = 20;
 
 // The number that an argument says, or the usual one where there is no argument.
-fn number_or(argument: Option<String>, usual: u32) -> anyhow::Result<u32> {
+fn number_or(argument: Option<String>, usual: u32) -> Result<u32, Fault> {
     match argument {
         Some(word) => word
             .as_str()
             .parse::<u32>()
-            .map_err(|_| anyhow!("usage: dimacs [WORDS [LEARNT]]")),
+            .map_err(|_| Fault::BadArguments),
         None => Ok(usual),
     }
 }
@@ -94,6 +93,9 @@ fn run(rt: &HostRuntime) -> anyhow::Result<u8> {
     let mut arguments = env::args(rt)?.skip(1);
     let words = number_or(arguments.next(), WORDS)?;
     let learnt = number_or(arguments.next(), LEARNT)?;
+    if arguments.next().is_some() {
+        return Err(Fault::BadArguments.into());
+    }
     let input = BufReader::new(rt.alloc(), rt.stdin())?;
     answer(rt, read_formula(rt, input, words, learnt)?)
 }
