@@ -1,7 +1,9 @@
 // Writes the plain clauses of a question and a number of gates as DIMACS text: clauses N TABLE D F R, TABLE hexadecimal.
 // They are satisfiable exactly if a majority network of at most R gates meets the question.
+// clauses N TABLE D F R exact writes the symmetry clauses behind them: they are then of canonical networks of exactly R gates.
 #include <cstdio>
 #include <cstdlib>
+#include <cstring>
 #include <vector>
 
 typedef std::vector<int> Clause;
@@ -137,13 +139,73 @@ static void limit_clauses() {
     }
 }
 
+// Groups a to c: of the fan-ins of a gate at most one is complemented; their nodes rise, or the first two are the constant and its
+// complement; and a gate with such a pair copies a gate.
+static void fan_in_order() {
+    for (int i = first_gate(); i < nodes(); i++)
+        for (int c = 0; c < 3; c++)
+            for (int e = c + 1; e < 3; e++) add({-complement_[i][c], -complement_[i][e]});
+    for (int i = first_gate(); i < nodes(); i++)
+        for (int j = 0; j < i; j++)
+            for (int k = 0; k <= j; k++) {
+                add({-select_[i][0][j], -select_[i][1][k]});
+                if (j == 0) clauses.back().push_back(complement_[i][1]);
+                add({-select_[i][1][j], -select_[i][2][k]});
+            }
+    for (int i = first_gate(); i < nodes(); i++)
+        for (int j = 0; j <= inputs; j++) add({-select_[i][0][0], -select_[i][1][0], -select_[i][2][j]});
+}
+
+// Groups d to g: the output is the last gate; each other gate is named by a later one; each gate is 0 in row 0; the third fan-in of a
+// gate is not behind that of the next gate, unless that is the gate itself.
+static void gate_order() {
+    int last = nodes() - 1;
+    if (gates > 0) add({output_[last]});
+    for (int j = first_gate(); j < last; j++) {
+        std::vector<int> named = uses(j);
+        named.pop_back();
+        add(named);
+    }
+    for (int i = first_gate(); i < nodes(); i++) add({-value_[i][0]});
+    for (int i = first_gate(); i < last; i++)
+        for (int j = 0; j < i; j++)
+            for (int k = 0; k < j; k++) add({-select_[i][2][j], -select_[i + 1][2][k]});
+}
+
+// Whether the table is the same with the inputs a and b exchanged.
+static bool symmetric_in(int a, int b) {
+    for (int row = 0; row < rows(); row++) {
+        int differ = (row >> (a - 1) ^ row >> (b - 1)) & 1;
+        int exchanged = row ^ (differ << (a - 1) | differ << (b - 1));
+        if ((table >> row & 1) != (table >> exchanged & 1)) return false;
+    }
+    return true;
+}
+
+// Group h: of two inputs in which the table is symmetric, the first is named by no later gate than the second.
+static void input_order() {
+    for (int a = 1; a <= inputs; a++)
+        for (int b = a + 1; b <= inputs; b++) {
+            if (!symmetric_in(a, b)) continue;
+            for (int i = first_gate(); i < nodes(); i++)
+                for (int c = 0; c < 3; c++) {
+                    Clause clause = {-select_[i][c][b]};
+                    for (int j = first_gate(); j <= i; j++)
+                        for (int d = 0; d < 3; d++) clause.push_back(select_[j][d][a]);
+                    add(clause);
+                }
+        }
+}
+
 int main(int words, char **word) {
-    if (words != 6) return 1;
+    bool exact = words == 7 && !strcmp(word[6], "exact");
+    if (words != 6 && !exact) return 1;
     inputs = atoi(word[1]), table = strtol(word[2], 0, 16), depth = atoi(word[3]), fan_out = atoi(word[4]), gates = atoi(word[5]);
     number();
     choices_and_values();
     output_clauses();
     limit_clauses();
+    if (exact) fan_in_order(), gate_order(), input_order();
     printf("p cnf %d %zu\n", variables, clauses.size());
     for (const Clause &clause : clauses) {
         for (int literal : clause) printf("%d ", literal);
