@@ -12,7 +12,7 @@ use std::process::ExitCode;
 // How many words are lent to the solver, and for how many learnt clauses there is room, where it is not said.
 const WORDS: u32 = 131072;
 
-const LEARNT: u32 = 6000;
+const LEARNT: u32 = 10000;
 
 // The exit codes of an answered formula.
 const SATISFIABLE: u8 = 10;

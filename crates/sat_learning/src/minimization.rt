@@ -16,7 +16,7 @@ const IMPLIED: u32 = 2;
 // The mark of a variable that is kept. One of the clause that is still to be reached has the mark 1.
 const KEPT: u32 = 3;
 
-// Makes all marks 1.
+// Makes each mark at most 1.
 fn start_marks(marks: &mut [u32])
     ensures small { (v : ℕ) → slice_index marks.new v ≤ 1 }
     ensures marked { (v : ℕ) → 0 < slice_index marks.old v → 0 < slice_index marks.new v }
