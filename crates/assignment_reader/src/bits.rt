@@ -6,14 +6,14 @@ ghost use Rattle.cnf.specs.Numbers.{bit_of};
 ghost use Rattle.cnf.specs.Rules.{bits_of_bytes};
 
 // Whether the variable with a number holds.
-pub fn bit(bytes: &[u8], variable: usize) -> bool
+pub(crate) fn bit(bytes: &[u8], variable: usize) -> bool
     ensures { result ≡ bit_of (bits_of_bytes bytes.now) variable }
 {
     bytes.get(variable.saturating_sub(1)) == Some(&1)
 }
 
 // Whether each byte is 0 or 1.
-pub fn all_bits(bytes: &[u8]) -> bool
+pub(crate) fn all_bits(bytes: &[u8]) -> bool
     ensures { result ≡ list_all (λ b. nat_lt b 2) bytes.now }
 {
     bytes.iter().all(|byte| *byte < 2)
@@ -21,7 +21,7 @@ pub fn all_bits(bytes: &[u8]) -> bool
 
 // Which of `count` variables in a row holds: the last one that does, counted from 0, or 0.
 #[tactic(auto, unfolding(cnf::specs::Meaning::pick))]
-pub fn last_that_holds(bytes: &[u8], first: u32, count: u8) -> u8
+pub(crate) fn last_that_holds(bytes: &[u8], first: u32, count: u8) -> u8
     ensures choice { result ≡ pick count (λ j. bit_of (bits_of_bytes bytes.now) (first + j)) }
     ensures bound { result ≤ count }
 {

@@ -12,7 +12,7 @@ use cnf::{ClauseSink, Literal};
 
 // An assignment, and whether all clauses that were taken hold in it.
 #[derive(Drop)]
-pub struct ClauseCheck<'a> {
+pub(crate) struct ClauseCheck<'a> {
     pub bytes: &'a [u8],
     pub hold: bool,
 }

@@ -9,7 +9,7 @@ use cnf::{ClauseSink, Literal};
 
 // How many clauses there are, and how many bytes their text has; both stop at the greatest number.
 #[derive(Clone, Copy, Debug, PartialEq, Eq)]
-pub struct TextLength {
+pub(crate) struct TextLength {
     pub clauses: usize,
     pub bytes: usize,
 }

@@ -42,7 +42,7 @@ fn write_clause(clause: &[Literal], buffer: &mut [u8], place: usize) -> usize
 
 // A buffer, and the place in it behind which the next clause is written, if there is room.
 #[derive(Drop)]
-pub struct TextWriter<'a> {
+pub(crate) struct TextWriter<'a> {
     pub buffer: &'a mut [u8],
     pub place: usize,
 }

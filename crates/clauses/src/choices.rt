@@ -13,7 +13,7 @@ use cnf::{ClauseSink, Literal};
 
 // What is chosen among the nodes: a fan-in of a gate, or the output.
 #[derive(Clone, Copy)]
-pub enum Choice {
+pub(crate) enum Choice {
     FanIn { gate: u8, fan_in: u8 },
     Output,
 }
@@ -77,7 +77,7 @@ fn fan_ins_of_gate<S: ClauseSink>(sink: &mut S, numbering: &Numbering, gate: u8)
 }
 
 // Group 1: each fan-in of each gate is exactly one earlier node.
-pub fn fan_ins_chosen<S: ClauseSink>(sink: &mut S, numbering: &Numbering)
+pub(crate) fn fan_ins_chosen<S: ClauseSink>(sink: &mut S, numbering: &Numbering)
     ensures { S.took sink.old (numbered (numbered_by numbering.now) (group_1 numbering.now.inputs numbering.now.gates)) sink.new }
 {
     for gate in numbering.inputs + 1..numbering.inputs + 1 + numbering.gates {
@@ -86,7 +86,7 @@ pub fn fan_ins_chosen<S: ClauseSink>(sink: &mut S, numbering: &Numbering)
 }
 
 // Group 4: the output is exactly one node.
-pub fn output_chosen<S: ClauseSink>(sink: &mut S, numbering: &Numbering)
+pub(crate) fn output_chosen<S: ClauseSink>(sink: &mut S, numbering: &Numbering)
     ensures { S.took sink.old (numbered (numbered_by numbering.now) (group_4 numbering.now.inputs numbering.now.gates)) sink.new }
 {
     one_node(

@@ -123,7 +123,7 @@ fn fan_out_of_gate<S: ClauseSink>(sink: &mut S, numbering: &Numbering, gate: u8)
 }
 
 // Group 7: the fan-outs of the gates whose uses outnumber the fan-out limit.
-pub fn fan_outs_limited<S: ClauseSink>(sink: &mut S, numbering: &Numbering)
+pub(crate) fn fan_outs_limited<S: ClauseSink>(sink: &mut S, numbering: &Numbering)
     ensures { S.took sink.old (numbered (numbered_by numbering.now) (group_7 numbering.now.inputs numbering.now.fan_out numbering.now.gates)) sink.new }
 {
     for gate in numbering.inputs + 1..numbering.inputs + 1 + numbering.gates {

@@ -78,7 +78,7 @@ fn output_level<S: ClauseSink>(sink: &mut S, numbering: &Numbering)
 }
 
 // Group 6: the levels, and the depth limit.
-pub fn levels_limited<S: ClauseSink>(sink: &mut S, numbering: &Numbering)
+pub(crate) fn levels_limited<S: ClauseSink>(sink: &mut S, numbering: &Numbering)
     ensures { S.took sink.old (numbered (numbered_by numbering.now) (group_6 numbering.now.inputs numbering.now.depth numbering.now.gates)) sink.new }
 {
     levels_of_gates(sink, numbering);

@@ -73,7 +73,7 @@ fn output_rows<S: ClauseSink>(sink: &mut S, numbering: &Numbering, table: u32, n
 }
 
 // Group 5: the output, whichever node it is, computes the table.
-pub fn output_values<S: ClauseSink>(sink: &mut S, numbering: &Numbering, table: u32)
+pub(crate) fn output_values<S: ClauseSink>(sink: &mut S, numbering: &Numbering, table: u32)
     ensures { S.took sink.old (numbered (numbered_by numbering.now) (group_5 numbering.now.inputs table numbering.now.gates)) sink.new }
 {
     for node in 0..numbering.inputs + 1 + numbering.gates {

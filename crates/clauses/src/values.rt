@@ -12,7 +12,7 @@ use crate::numbering::Numbering;
 use cnf::ClauseSink;
 
 // The value of the constant or an input in a row.
-pub fn given_value(inputs: u8, node: u8, row: u8) -> bool
+pub(crate) fn given_value(inputs: u8, node: u8, row: u8) -> bool
     requires { (node ≤ inputs) × (inputs ≤ 4) }
     ensures { result ≡ given inputs row node }
 {
@@ -114,7 +114,7 @@ fn fan_ins_of_gate<S: ClauseSink>(sink: &mut S, numbering: &Numbering, gate: u8)
 }
 
 // Group 2: the values of the fan-ins.
-pub fn fan_in_values<S: ClauseSink>(sink: &mut S, numbering: &Numbering)
+pub(crate) fn fan_in_values<S: ClauseSink>(sink: &mut S, numbering: &Numbering)
     ensures { S.took sink.old (numbered (numbered_by numbering.now) (group_2 numbering.now.inputs numbering.now.gates)) sink.new }
 {
     for gate in numbering.inputs + 1..numbering.inputs + 1 + numbering.gates {
@@ -153,7 +153,7 @@ fn gate_rows<S: ClauseSink>(sink: &mut S, numbering: &Numbering, gate: u8)
 }
 
 // Group 3: the values of the gates.
-pub fn gate_values<S: ClauseSink>(sink: &mut S, numbering: &Numbering)
+pub(crate) fn gate_values<S: ClauseSink>(sink: &mut S, numbering: &Numbering)
     ensures { S.took sink.old (numbered (numbered_by numbering.now) (group_3 numbering.now.inputs numbering.now.gates)) sink.new }
 {
     for gate in numbering.inputs + 1..numbering.inputs + 1 + numbering.gates {
