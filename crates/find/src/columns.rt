@@ -6,15 +6,39 @@ ghost use Rattle.enumeration_laws.specs.Columns.{CodeColumns};
 use mig::Gate;
 use value_kinds::{Column, ValueKind};
 
+// The columns of the constant and of four inputs, and places for those of seven gates.
+static FIRST_COLUMNS: [Column; 24] = [
+    Column { rows: 0 },
+    Column { rows: 0xffff },
+    Column { rows: 0xaaaa },
+    Column { rows: 0x5555 },
+    Column { rows: 0xcccc },
+    Column { rows: 0x3333 },
+    Column { rows: 0xf0f0 },
+    Column { rows: 0x0f0f },
+    Column { rows: 0xff00 },
+    Column { rows: 0x00ff },
+    Column { rows: 0 },
+    Column { rows: 0 },
+    Column { rows: 0 },
+    Column { rows: 0 },
+    Column { rows: 0 },
+    Column { rows: 0 },
+    Column { rows: 0 },
+    Column { rows: 0 },
+    Column { rows: 0 },
+    Column { rows: 0 },
+    Column { rows: 0 },
+    Column { rows: 0 },
+    Column { rows: 0 },
+    Column { rows: 0 },
+];
+
 // The columns of the constant and of four inputs.
 pub(crate) fn start_columns() -> [Column; 24]
     ensures { (n : ℕ) → n ≤ 4 → CodeColumns n [] result }
 {
-    let rows = [
-        0, 0xffff, 0xaaaa, 0x5555, 0xcccc, 0x3333, 0xf0f0, 0x0f0f, 0xff00, 0x00ff, 0, 0, 0, 0, 0,
-        0, 0, 0, 0, 0, 0, 0, 0, 0,
-    ];
-    rows.map(|rows| Column { rows })
+    FIRST_COLUMNS
 }
 
 // The column of a gate.
