@@ -1,9 +1,9 @@
 // Normalising a network.
-ghost use Rattle.std.specs.Prelude.{◌≡◌, ◌-◌, ◌<◌, ◌≤◌, ◌↔◌, drop, replicate, IfOk};
+ghost use Rattle.std.specs.Prelude.{◌≡◌, ◌-◌, ◌<◌, ◌≤◌, ◌↔◌, drop, map, replicate, IfOk};
 ghost use Rattle.mig.specs.declared.question.Question.{Question};
 ghost use Rattle.mig.specs.Networks.{net_of, network_of, empty_gate};
 ghost use Rattle.mig.specs.Questions.{Meets};
-ghost use Rattle.mig.specs.Normal.{Normal, SameShape};
+ghost use Rattle.mig.specs.Normal.{Normal, SameShape, flip_naming, map_gate};
 ghost use Rattle.mig.specs.Normal.{turned as turned_net};
 ghost use Rattle.mig.specs.Rules.{normalised_answer};
 
@@ -22,6 +22,15 @@ fn cleared(network: &Network) -> Network
     Network { gates, ..*network }
 }
 
+// Flips the codes of the gates that name the node.
+fn flip_uses(gates: &mut [Gate], node: u8)
+    ensures { gates.new ≡ map (map_gate (flip_naming node)) gates.old }
+{
+    for gate in gates.iter_mut() {
+        *gate = gate_flipped_naming(*gate, node);
+    }
+}
+
 // The network with the fan-ins of the gate at `place` flipped, and every code that names the gate.
 // Four private functions, in three crates, ask for `inputs ≤ 4`: a type that says so would be made at each public call.
 fn turned(inputs: u8, place: u8, network: Network) -> Network
@@ -33,9 +42,7 @@ fn turned(inputs: u8, place: u8, network: Network) -> Network
 {
     let node = inputs + 1 + place;
     let mut gates = network.gates;
-    for gate in &mut gates {
-        *gate = gate_flipped_naming(*gate, node);
-    }
+    flip_uses(&mut gates[..usize::from(network.count)], node);
     gates[place as usize] = gate_flipped(network.gates[place as usize]);
     Network {
         count: network.count,
