@@ -50,10 +50,9 @@ fn number<const BASE: u32>(word: &str) -> Option<u32>
         return None;
     }
     let mut value = 0u32;
-    for digit in word.chars() {
-        value = value
-            .saturating_mul(BASE)
-            .saturating_add(digit.to_digit(BASE)?);
+    for byte in word.bytes() {
+        let digit = char::from(byte).to_digit(BASE)?;
+        value = value.saturating_mul(BASE).saturating_add(digit);
     }
     Some(value)
 }
